@@ -1,0 +1,45 @@
+// Runs of bytes that repeat a word.
+ghost use mathlib.Core.Path.{_≡_};
+ghost use Prim.Native.Nat.{_+_, _%_, _≤_};
+ghost use lib.ListN.{length};
+ghost use lib.Seq.{sets};
+ghost use Rattle.words.specs.Word.{part};
+ghost use Rattle.words.specs.Run.{repeated, difference};
+use crate::word;
+
+// Where two runs of bytes differ first, counted from their start.
+pub enum Difference {
+    At(usize),
+    Nowhere,
+}
+
+// Fills `len` bytes from an offset on with a word again and again. Two words are written in a turn, which takes half the
+// time of one; a buffer is a multiple of 8 bytes.
+pub fn fill(s: &mut [u8], at: usize, len: usize, w: u32)
+    requires { ⌜ at + len ≤ length (now s) ⌝ }
+    requires { ⌜ len % 8 ≡ 0 ⌝ }
+    ensures { λ _. ⌜ now (s .exit) ≡ sets (now (s .entry)) at (repeated len w) ⌝ }
+{
+    let mut i = 0;
+    while i < len {
+        word::write_u32(s, at + i, w);
+        word::write_u32(s, at + i + 4, w);
+        i += 8;
+    }
+}
+
+// The first place at which `len` bytes from an offset on differ from a word again and again.
+pub fn first_difference(s: &[u8], at: usize, len: usize, w: u32) -> Difference
+    requires { ⌜ at + len ≤ length (now s) ⌝ }
+    ensures { λ r. ⌜ r ≡ difference (part (now (s .entry)) at len) (repeated len w) ⌝ }
+{
+    let pattern = word::bytes4(w);
+    let mut i = 0;
+    while i < len {
+        if s[at + i] != pattern[i % 4] {
+            return Difference::At(i);
+        }
+        i += 1;
+    }
+    Difference::Nowhere
+}

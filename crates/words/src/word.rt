@@ -1,0 +1,96 @@
+// Numbers of one, two and four bytes in a slice, the first byte the highest.
+ghost use mathlib.Core.Path.{_≡_};
+ghost use mathlib.Core.List.{[], _∷_};
+ghost use Prim.Native.Nat.{_+_, _*_, _%_, _≤_};
+ghost use lib.ListN.{length};
+ghost use lib.Seq.{sets};
+ghost use Rattle.words.specs.Word.{number, numberAt, bytesOf};
+
+// The number of two bytes.
+fn join2(a: u8, b: u8) -> u16
+    ensures { λ r. ⌜ r ≡ number (a ∷ b ∷ []) ⌝ }
+{
+    (a as u16) * 256 + (b as u16)
+}
+
+// The number of four bytes.
+fn join4(a: u8, b: u8, c: u8, d: u8) -> u32
+    ensures { λ r. ⌜ r ≡ number (a ∷ b ∷ c ∷ d ∷ []) ⌝ }
+{
+    (a as u32) * 16777216 + (b as u32) * 65536 + (c as u32) * 256 + (d as u32)
+}
+
+// The lowest byte of a number.
+fn low(w: u32) -> u8
+    ensures { λ r. ⌜ r ≡ w % 256 ⌝ }
+{
+    (w % 256) as u8
+}
+
+// The two bytes of a number.
+fn bytes2(v: u16) -> [u8; 2]
+    ensures { λ r. ⌜ r ≡ bytesOf 2 v ⌝ }
+{
+    [low(v as u32 / 256), low(v as u32)]
+}
+
+// The four bytes of a number.
+pub fn bytes4(v: u32) -> [u8; 4]
+    ensures { λ r. ⌜ r ≡ bytesOf 4 v ⌝ }
+{
+    [low(v / 16777216), low(v / 65536), low(v / 256), low(v)]
+}
+
+// The byte at an offset.
+pub fn read_u8(s: &[u8], at: usize) -> u8
+    requires { ⌜ at + 1 ≤ length (now s) ⌝ }
+    ensures { λ r. ⌜ r ≡ numberAt 1 (now (s .entry)) at ⌝ }
+{
+    s[at]
+}
+
+// The number of the two bytes from an offset on.
+pub fn read_u16(s: &[u8], at: usize) -> u16
+    requires { ⌜ at + 2 ≤ length (now s) ⌝ }
+    ensures { λ r. ⌜ r ≡ numberAt 2 (now (s .entry)) at ⌝ }
+{
+    join2(s[at], s[at + 1])
+}
+
+// The number of the four bytes from an offset on.
+pub fn read_u32(s: &[u8], at: usize) -> u32
+    requires { ⌜ at + 4 ≤ length (now s) ⌝ }
+    ensures { λ r. ⌜ r ≡ numberAt 4 (now (s .entry)) at ⌝ }
+{
+    join4(s[at], s[at + 1], s[at + 2], s[at + 3])
+}
+
+// Writes one byte at an offset.
+pub fn write_u8(s: &mut [u8], at: usize, v: u8)
+    requires { ⌜ at + 1 ≤ length (now s) ⌝ }
+    ensures { λ _. ⌜ now (s .exit) ≡ sets (now (s .entry)) at (bytesOf 1 v) ⌝ }
+{
+    s[at] = v;
+}
+
+// Writes the two bytes of a number from an offset on.
+pub fn write_u16(s: &mut [u8], at: usize, v: u16)
+    requires { ⌜ at + 2 ≤ length (now s) ⌝ }
+    ensures { λ _. ⌜ now (s .exit) ≡ sets (now (s .entry)) at (bytesOf 2 v) ⌝ }
+{
+    let b = bytes2(v);
+    s[at] = b[0];
+    s[at + 1] = b[1];
+}
+
+// Writes the four bytes of a number from an offset on.
+pub fn write_u32(s: &mut [u8], at: usize, v: u32)
+    requires { ⌜ at + 4 ≤ length (now s) ⌝ }
+    ensures { λ _. ⌜ now (s .exit) ≡ sets (now (s .entry)) at (bytesOf 4 v) ⌝ }
+{
+    let b = bytes4(v);
+    s[at] = b[0];
+    s[at + 1] = b[1];
+    s[at + 2] = b[2];
+    s[at + 3] = b[3];
+}
