@@ -1,6 +1,7 @@
 -- The laws of parts, of numbers in bytes and of repeated words that callers need, each stated once over offset, length and width. Assumes nothing.
 use mathlib.Core.Path.{_≡_, refl, sym, ap, _∙_, subst}
 use mathlib.Core.Logic.{_≢_, _⊎_, inl, inr}
+use mathlib.Core.Bool.{Bool, true, false}
 use mathlib.Core.List.{List, [], _∷_, _++_, append-assoc, append-nil}
 use Prim.Native.Nat.{ℕ, zero, suc, _+_, _-_, _*_, _/_, _%_, _^_, _≤_, _<_}
 use native.Mathlib.Nat.{add-zero, zero-add, add-suc, mul-le-mul-right, suc-mul, pow-succ', one-le-pow, mod-lt, div-one}
@@ -13,7 +14,7 @@ use lib.Dec.{lit<, eqb}
 use lib.ListN.{length, take, drop, getD, set, length-take, length-drop, length-append, length-set, List·getD-append, List·getD-eq-default}
 use lib.Seq.{sets, sets-eq, length-sets, take-take, take-length, drop-drop, drop-append-le, drop-append-add, take-append-le, take-append-seam, drop-at, length-take-le, drop-set-add, take-set-le, take-set-lt, drop-set-lt, drop-cons, getD-take, getD-drop, getD-append-seam, getD-append-add, getD-at}
 use Rattle.words.specs.Word.{part, number, bytesOf, numberAt, AreBytes}
-use Rattle.words.specs.Run.{repeated, differenceFrom, difference}
+use Rattle.words.specs.Run.{pick, repeated, differenceFrom, difference}
 use Rattle.words.specs.declared.run.Difference.{Difference}
 use Rattle.words.specs.declared.run.Difference.the-variants.{At, Nowhere}
 
@@ -315,6 +316,11 @@ repeated-more n w h =
     let c : suc (suc (suc n)) % 4 ≡ 3 = omega arith in
     rw (e, h, a, b, c) (simp append-assoc)
 
+-- a word once
+pub repeated-once : (w : ℕ) → repeated 4 w ≡ bytesOf 4 w
+unfolding repeated
+repeated-once w = repeated-more 0 w refl
+
 -- ---- the first place at which two lists differ
 
 pub differs-nowhere : (k : ℕ) (xs ys : List ℕ) → length xs ≡ length ys → ((i : ℕ) → i < length xs → getD xs i 0 ≡ getD ys i 0)
@@ -334,6 +340,21 @@ differs-at k (x ∷ xs) (y ∷ ys) zero hx hy h ne = rw (ne-eqb x y ne, add-zero
 differs-at k (x ∷ xs) (y ∷ ys) (suc i) hx hy h ne =
     let e : k + suc i ≡ suc k + i = omega arith in
     rw (eq-eqb x y (h 0 (omega arith)), e) (differs-at (suc k) xs ys i (omega arith) (omega arith) (λ j g. h (suc j) (omega arith)) ne)
+
+-- a place at which two lists differ is a place of the first
+within : (k : ℕ) (xs ys : List ℕ) (o : ℕ) → differenceFrom k xs ys ≡ At o → o < k + length xs
+unfolding differenceFrom
+within k [] ys o e = absurd (let z : _≡_ {A = ℕ} 0 1 = cc in omega arith)
+within k (x ∷ xs) [] o e = let z : k ≡ o = cc in omega arith
+within k (x ∷ xs) (y ∷ ys) o e = go (eqb x y) (within (suc k) xs ys o) e
+  where
+    go : (b : Bool) → (differenceFrom (suc k) xs ys ≡ At o → o < suc k + length xs) → pick b (differenceFrom (suc k) xs ys) (At k) ≡ At o
+        → o < k + suc (length xs)
+    go true ih f = omega (arith, ih f)
+    go false ih f = let z : k ≡ o = cc in omega arith
+
+pub differs-within : (xs ys : List ℕ) (o : ℕ) → difference xs ys ≡ At o → o < length xs
+differs-within xs ys o e = omega (arith, within 0 xs ys o e)
 
 pub same-nowhere : (l : List ℕ) → difference l l ≡ Nowhere
 same-nowhere l = differs-nowhere 0 l l refl (λ i h. refl)
@@ -366,3 +387,7 @@ module _ (s : List ℕ) (at len w : ℕ) (fits : at + len ≤ length s) where
   run-same same =
       differs-nowhere 0 (part s at len) (repeated len w) (length-part s at len fits ∙ sym (length-repeated len w))
       (λ k g. both k (omega (arith, length-part s at len fits)) (same k (omega (arith, length-part s at len fits))))
+
+  -- a place at which the run differs is a place of the run
+  pub run-within : (o : ℕ) (d : Difference) → d ≡ difference (part s at len) (repeated len w) → d ≡ At o → o < len
+  run-within o d e g = omega (arith, differs-within (part s at len) (repeated len w) o (sym e ∙ g), length-part s at len fits)

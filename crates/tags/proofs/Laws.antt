@@ -1,0 +1,153 @@
+-- The laws of tags, size codes and chunks, and what the steps of the code come to. Assumes nothing.
+use mathlib.Core.Path.{_≡_, refl, sym, ap, ap₂, _∙_, subst}
+use mathlib.Core.Bool.{Bool, true, false, _&&_}
+use mathlib.Core.List.{List, [], _∷_, _++_}
+use Prim.Native.Nat.{ℕ, zero, suc, _+_, _-_, _*_, _/_, _%_, _≤_, _<_}
+use native.Mathlib.Nat.{mod-lt, div-add-mod', zero-lt-suc}
+use native.Mathlib.Omega.{arith}
+use borrow.Author.Tests.{eq-eqb, ne-eqb, le-leb, lt-leb, leb-true, eqb-true}
+use lib.Arith.{bin-ind}
+use lib.Bits.{bitXor, differ, xor-step, xor-shr, xor-mod}
+use lib.Dec.{eqb, leb}
+use lib.ListN.{length, getD, set, length-append, length-set}
+use lib.Seq.{sets}
+use Rattle.words.specs.Word.{part, numberAt, bytesOf}
+use Rattle.words.specs.Run.{pick, repeated, difference}
+use Rattle.words.specs.declared.run.Difference.{Difference}
+use Rattle.words.specs.declared.run.Difference.the-variants.{At, Nowhere}
+use Rattle.words.proofs.Laws.{sets-then, sets-whole, length-bytesOf, length-repeated, repeated-once}
+use Rattle.tags.specs.Tag.{tagOf, patternOf, patternWord, stateWord, statePattern, freePattern, allocatedPattern}
+use Rattle.tags.specs.SizeCode.{codeOf, decodedOf}
+use Rattle.tags.specs.Chunk.{redzone, freeFill, grantFill, guard, bufferSize, chunkOf, filledChunk, freeChunk, grantedChunk, LawfulGrant}
+use Rattle.tags.specs.Judge.{freeVerdict, zoneVerdict, zoneAfter, sizedVerdict, allocatedVerdict, ofCode, r1Of}
+use Rattle.tags.specs.declared.tag.State.{State}
+use Rattle.tags.specs.declared.tag.State.the-variants as state
+use Rattle.tags.specs.declared.tag.Pattern.{Pattern}
+use Rattle.tags.specs.declared.tag.Pattern.the-variants as pattern
+use Rattle.tags.specs.declared.size_code.Decoded.{Decoded}
+use Rattle.tags.specs.declared.size_code.Decoded.the-variants.{Size, Bad}
+use Rattle.tags.specs.declared.chunk.Grant.{Grant}
+use Rattle.tags.specs.declared.chunk.Grant.the-variants as grant
+use Rattle.tags.specs.declared.verdict.Verdict.{Verdict}
+use Rattle.tags.specs.declared.verdict.Verdict.the-variants.{Free, Whole, Allocated, BadTag, BadFill, BadRedzone, BadSizeCode, Overrun}
+
+-- ---- the tag
+
+digit : (x y : ℕ) → x < 2 → y < 2 → differ x (differ x y) ≡ y
+digit zero y hx hy = refl
+digit (suc zero) zero hx hy = refl
+digit (suc zero) (suc zero) hx hy = refl
+digit (suc zero) (suc (suc y)) hx hy = absurd (omega arith)
+digit (suc (suc x)) y hx hy = absurd (omega arith)
+
+low : (x y : ℕ) → x < 2 → y < 2 → bitXor x y ≡ differ x y
+low zero y hx hy = refl
+low (suc zero) zero hx hy = refl
+low (suc zero) (suc zero) hx hy = refl
+low (suc zero) (suc (suc y)) hx hy = absurd (omega arith)
+low (suc (suc x)) y hx hy = absurd (omega arith)
+
+pub xor-twice : (a b : ℕ) → bitXor a (bitXor a b) ≡ b
+xor-twice =
+    bin-ind (λ (n : ℕ). (b : ℕ) → bitXor n (bitXor n b) ≡ b) (λ b. refl)
+    (λ n ih b.
+    let hn : n % 2 < 2 = mod-lt n (zero-lt-suc 1) in
+    let hb : b % 2 < 2 = mod-lt b (zero-lt-suc 1) in
+    xor-step n (bitXor n b)
+    ∙ ap₂ (λ (x y : ℕ). x * 2 + y)
+    (ap (bitXor (n / 2)) (xor-shr n b 1) ∙ ih (b / 2))
+    (ap (differ (n % 2)) (xor-mod n b 1 ∙ low (n % 2) (b % 2) hn hb) ∙ digit (n % 2) (b % 2) hn hb)
+    ∙ div-add-mod' b 2)
+
+-- the xor of a tag gives the pattern of its state back
+pub tag-word : (a : ℕ) (s : State) → bitXor (tagOf a s .t0) (tagOf a s .t1) ≡ stateWord s
+unfolding tagOf
+tag-word a s = xor-twice a (stateWord s)
+
+pub tag-pattern : (a : ℕ) (s : State) → patternOf (tagOf a s) ≡ statePattern s
+unfolding patternOf patternWord
+tag-pattern a s = ap patternWord (tag-word a s) ∙ known s
+  where
+    known : (s : State) → patternWord (stateWord s) ≡ statePattern s
+    known state.Free = refl
+    known state.Allocated = refl
+
+-- ---- the size code
+
+-- a code gives its size back
+pub decode-code : (s most : ℕ) → 1 ≤ s → s ≤ most → decodedOf (codeOf s) most ≡ Size s
+unfolding decodedOf codeOf
+decode-code s most h k =
+    let q : (251 * s + 1) / 251 ≡ s = omega arith in
+    let r : (251 * s + 1) % 251 ≡ 1 = omega arith in
+    rw (q, r, le-leb 1 s h, le-leb s most k)
+
+and-true : (a b : Bool) → a && b ≡ true → (a ≡ true) × (b ≡ true)
+and-true true b e = (refl, e)
+and-true false b e = absurd (let z : _≡_ {A = ℕ} 0 1 = cc in omega arith)
+
+-- a decoded size is one of the buffer's
+pub decoded-within : (code most s : ℕ) → decodedOf code most ≡ Size s → (1 ≤ s) × (s ≤ most)
+unfolding decodedOf
+decoded-within code most s e = go (eqb (code % 251) 1 && (leb 1 (code / 251) && leb (code / 251) most)) refl e
+  where
+    go : (b : Bool) → eqb (code % 251) 1 && (leb 1 (code / 251) && leb (code / 251) most) ≡ b → pick b (Size (code / 251)) Bad ≡ Size s
+        → (1 ≤ s) × (s ≤ most)
+    go true t f =
+        let z : code / 251 ≡ s = cc in
+        let both = and-true (leb 1 (code / 251)) (leb (code / 251) most) (and-true (eqb (code % 251) 1) (leb 1 (code / 251) && leb (code / 251) most) t .1) in
+        rw (← z) (leb-true 1 (code / 251) (both .0), leb-true (code / 251) most (both .1))
+    go false t f = absurd (let z : _≡_ {A = ℕ} 0 1 = cc in omega arith)
+
+-- ---- a chunk is written
+
+-- `vs` is written behind `p`, which stands at the front
+next : (l p vs : List ℕ) (at : ℕ) {s t : List ℕ} → s ≡ sets l 0 p → length p ≡ at → t ≡ sets s at vs → t ≡ sets l 0 (p ++ vs)
+next l p vs at {s} {t} es len et = rw (et, es) (sets-then l 0 at at p vs len (omega arith))
+
+-- the fill and then four words are written one after the other over `l`
+pub laid : (l s₀ s₁ s₂ s₃ s₄ : List ℕ) (n w r1 t0 t1 : ℕ) → length l ≡ n + 16 → s₀ ≡ sets l 0 (repeated n w)
+    → s₁ ≡ sets s₀ n (bytesOf 4 redzone) → s₂ ≡ sets s₁ (n + 4) (bytesOf 4 r1) → s₃ ≡ sets s₂ (n + 8) (bytesOf 4 t0)
+    → s₄ ≡ sets s₃ (n + 12) (bytesOf 4 t1) → s₄ ≡ chunkOf (repeated n w) redzone r1 t0 t1
+unfolding chunkOf
+laid l s₀ s₁ s₂ s₃ s₄ n w r1 t0 t1 el e₀ e₁ e₂ e₃ e₄ =
+    let p₀ = repeated n w in
+    let p₁ = p₀ ++ bytesOf 4 redzone in
+    let p₂ = p₁ ++ bytesOf 4 r1 in
+    let p₃ = p₂ ++ bytesOf 4 t0 in
+    let f₁ = next l p₀ (bytesOf 4 redzone) n e₀ (length-repeated n w) e₁ in
+    let f₂ = next l p₁ (bytesOf 4 r1) (n + 4) f₁ (simp (length-append, length-bytesOf, length-repeated)) e₂ in
+    let f₃ = next l p₂ (bytesOf 4 t0) (n + 8) f₂ (simp (length-append, length-bytesOf, length-repeated) (omega arith)) e₃ in
+    let f₄ = next l p₃ (bytesOf 4 t1) (n + 12) f₃ (simp (length-append, length-bytesOf, length-repeated) (omega arith)) e₄ in
+    f₄ ∙ sets-whole l (p₃ ++ bytesOf 4 t1) (simp (length-append, length-bytesOf, length-repeated) (omega arith))
+
+pub length-chunkOf : (b : List ℕ) (r0 r1 t0 t1 : ℕ) → length (chunkOf b r0 r1 t0 t1) ≡ length b + 16
+unfolding chunkOf
+length-chunkOf b r0 r1 t0 t1 = simp (length-append, length-bytesOf) (omega arith)
+
+pub length-freeChunk : (size a : ℕ) → length (freeChunk size a) ≡ size + 16
+unfolding freeChunk
+length-freeChunk size a = simp (length-chunkOf, length-repeated)
+
+pub length-grantedChunk : (size a : ℕ) (g : Grant) → length (grantedChunk size a g) ≡ size + 16
+unfolding grantedChunk
+length-grantedChunk size a grant.Whole = simp (length-chunkOf, length-repeated)
+length-grantedChunk size a (grant.Sized s) = simp (length-set, length-chunkOf, length-repeated)
+
+-- ---- a chunk is judged
+
+-- the code compares R0 with a repeated word, the rule with the word's bytes
+pub zone-at : (c : List ℕ) (w o : ℕ) (v : Verdict) (d : Difference) → d ≡ difference (part c (bufferSize c) 4) (repeated 4 w) → d ≡ At o
+    → Overrun (bufferSize c + o) ≡ zoneVerdict c (bytesOf 4 w) v
+unfolding zoneVerdict
+zone-at c w o v d e g = rw (← repeated-once w, ← e, g)
+
+pub zone-sound : (c : List ℕ) (w : ℕ) (v : Verdict) (d : Difference) → d ≡ difference (part c (bufferSize c) 4) (repeated 4 w) → d ≡ Nowhere
+    → v ≡ zoneVerdict c (bytesOf 4 w) v
+unfolding zoneVerdict
+zone-sound c w v d e g = rw (← repeated-once w, ← e, g)
+
+-- R0 after a grant of the whole buffer's size
+pub guarded-zone : bytesOf 4 0xbbedface ≡ set (bytesOf 4 redzone) 0 guard
+unfolding bytesOf
+guarded-zone = refl

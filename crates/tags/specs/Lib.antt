@@ -1,0 +1,5 @@
+pub mod Verdict
+pub mod Tag
+pub mod SizeCode
+pub mod Chunk
+pub mod Judge

@@ -1,0 +1,34 @@
+-- The number and the value of each verdict, as document 01's "Verdicts" has them. Assumes nothing.
+use Prim.Native.Nat.{ℕ}
+use Rattle.tags.specs.declared.verdict.Verdict.{Verdict}
+use Rattle.tags.specs.declared.verdict.Verdict.the-variants.{Free, Whole, Allocated, NotOneRecord, BadTag, FreedTwice, OffChain, OnChain, BadFill, BadRedzone, BadSizeCode, Overrun}
+
+-- 0 free, 1 whole, 2 allocated s, and the faults 20 to 28
+abbrev pub verdictNumber : Verdict → ℕ
+verdictNumber Free = 0
+verdictNumber Whole = 1
+verdictNumber (Allocated s) = 2
+verdictNumber NotOneRecord = 20
+verdictNumber BadTag = 21
+verdictNumber FreedTwice = 22
+verdictNumber OffChain = 23
+verdictNumber OnChain = 24
+verdictNumber (BadFill o) = 25
+verdictNumber (BadRedzone o) = 26
+verdictNumber BadSizeCode = 27
+verdictNumber (Overrun o) = 28
+
+-- the size of 2, the offset of 25, 26 and 28; any other verdict has none, which is told as 0
+abbrev pub verdictValue : Verdict → ℕ
+verdictValue Free = 0
+verdictValue Whole = 0
+verdictValue (Allocated s) = s
+verdictValue NotOneRecord = 0
+verdictValue BadTag = 0
+verdictValue FreedTwice = 0
+verdictValue OffChain = 0
+verdictValue OnChain = 0
+verdictValue (BadFill o) = o
+verdictValue (BadRedzone o) = o
+verdictValue BadSizeCode = 0
+verdictValue (Overrun o) = o

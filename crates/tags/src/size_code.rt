@@ -1,0 +1,36 @@
+// The size of a grant of s bytes, coded in R1.
+ghost use mathlib.Core.Path.{_≡_};
+ghost use Prim.Native.Nat.{_≤_};
+ghost use Rattle.tags.specs.SizeCode.{codeOf, decodedOf};
+
+// What a code says.
+pub enum Decoded {
+    Size(u32),
+    Bad,
+}
+
+// The code of a size.
+pub fn encode(size: u32) -> u32
+    requires { ⌜ size ≤ 4096 ⌝ }
+    ensures { λ r. ⌜ r ≡ codeOf size ⌝ }
+{
+    251 * size + 1
+}
+
+// The size that a code stands for in a buffer of `most` bytes. The remainder is tested: a division alone would take a
+// damaged code for a size.
+pub fn decode(code: u32, most: u32) -> Decoded
+    ensures { λ r. ⌜ r ≡ decodedOf code most ⌝ }
+{
+    if code % 251 != 1 {
+        return Decoded::Bad;
+    }
+    let size = code / 251;
+    if size == 0 {
+        return Decoded::Bad;
+    }
+    if most < size {
+        return Decoded::Bad;
+    }
+    Decoded::Size(size)
+}

@@ -1,0 +1,60 @@
+// What is found of a buffer.
+ghost use mathlib.Core.Path.{_≡_};
+ghost use Rattle.tags.specs.Verdict.{verdictNumber, verdictValue};
+
+// Document 01's verdicts, in the order of their numbers. A size is that of the grant; an offset is that of the first byte
+// that differs, from the buffer's start.
+pub enum Verdict {
+    Free,
+    Whole,
+    Allocated(u32),
+    NotOneRecord,
+    BadTag,
+    FreedTwice,
+    OffChain,
+    OnChain,
+    BadFill(u32),
+    BadRedzone(u32),
+    BadSizeCode,
+    Overrun(u32),
+}
+
+// The number of a verdict.
+pub fn number(v: Verdict) -> u32
+    ensures { λ r. ⌜ r ≡ verdictNumber v ⌝ }
+{
+    match v {
+        Verdict::Free => 0,
+        Verdict::Whole => 1,
+        Verdict::Allocated(_) => 2,
+        Verdict::NotOneRecord => 20,
+        Verdict::BadTag => 21,
+        Verdict::FreedTwice => 22,
+        Verdict::OffChain => 23,
+        Verdict::OnChain => 24,
+        Verdict::BadFill(_) => 25,
+        Verdict::BadRedzone(_) => 26,
+        Verdict::BadSizeCode => 27,
+        Verdict::Overrun(_) => 28,
+    }
+}
+
+// The size or the offset that a verdict carries, 0 for one that carries none.
+pub fn value(v: Verdict) -> u32
+    ensures { λ r. ⌜ r ≡ verdictValue v ⌝ }
+{
+    match v {
+        Verdict::Allocated(size) => size,
+        Verdict::BadFill(offset) => offset,
+        Verdict::BadRedzone(offset) => offset,
+        Verdict::Overrun(offset) => offset,
+        Verdict::Free => 0,
+        Verdict::Whole => 0,
+        Verdict::NotOneRecord => 0,
+        Verdict::BadTag => 0,
+        Verdict::FreedTwice => 0,
+        Verdict::OffChain => 0,
+        Verdict::OnChain => 0,
+        Verdict::BadSizeCode => 0,
+    }
+}
