@@ -1,37 +1,33 @@
 -- The laws of tags, size codes and chunks, and what the steps of the code come to. Assumes nothing.
-use mathlib.Core.Path.{_≡_, refl, sym, ap, ap₂, _∙_, subst}
+-- ---- the tag
+use mathlib.Core.Path.{_≡_, refl, ap, ap₂, _∙_}
 use mathlib.Core.Bool.{Bool, true, false, _&&_}
-use mathlib.Core.List.{List, [], _∷_, _++_}
+use mathlib.Core.List.{List, _++_}
 use Prim.Native.Nat.{ℕ, zero, suc, _+_, _-_, _*_, _/_, _%_, _≤_, _<_}
 use native.Mathlib.Nat.{mod-lt, div-add-mod', zero-lt-suc}
 use native.Mathlib.Omega.{arith}
-use borrow.Author.Tests.{eq-eqb, ne-eqb, le-leb, lt-leb, leb-true, eqb-true}
+use borrow.Author.Tests.{le-leb, leb-true}
 use lib.Arith.{bin-ind}
 use lib.Bits.{bitXor, differ, xor-step, xor-shr, xor-mod}
 use lib.Dec.{eqb, leb}
-use lib.ListN.{length, getD, set, length-append, length-set}
+use lib.ListN.{length, set, length-append, length-set}
 use lib.Seq.{sets}
-use Rattle.words.specs.Word.{part, numberAt, bytesOf}
+use Rattle.words.specs.Word.{part, bytesOf}
 use Rattle.words.specs.Run.{pick, repeated, difference}
 use Rattle.words.specs.declared.run.Difference.{Difference}
 use Rattle.words.specs.declared.run.Difference.the-variants.{At, Nowhere}
 use Rattle.words.proofs.Laws.{sets-then, sets-whole, length-bytesOf, length-repeated, repeated-once}
-use Rattle.tags.specs.Tag.{tagOf, patternOf, patternWord, stateWord, statePattern, freePattern, allocatedPattern}
+use Rattle.tags.specs.Tag.{tagOf, patternOf, patternWord, stateWord, statePattern}
 use Rattle.tags.specs.SizeCode.{codeOf, decodedOf}
-use Rattle.tags.specs.Chunk.{redzone, freeFill, grantFill, guard, bufferSize, chunkOf, filledChunk, freeChunk, grantedChunk, LawfulGrant}
-use Rattle.tags.specs.Judge.{freeVerdict, zoneVerdict, zoneAfter, sizedVerdict, allocatedVerdict, ofCode, r1Of}
+use Rattle.tags.specs.Chunk.{redzone, guard, bufferSize, chunkOf, freeChunk, grantedChunk}
+use Rattle.tags.specs.Judge.{zoneVerdict}
 use Rattle.tags.specs.declared.tag.State.{State}
-use Rattle.tags.specs.declared.tag.State.the-variants as state
-use Rattle.tags.specs.declared.tag.Pattern.{Pattern}
-use Rattle.tags.specs.declared.tag.Pattern.the-variants as pattern
-use Rattle.tags.specs.declared.size_code.Decoded.{Decoded}
 use Rattle.tags.specs.declared.size_code.Decoded.the-variants.{Size, Bad}
 use Rattle.tags.specs.declared.chunk.Grant.{Grant}
-use Rattle.tags.specs.declared.chunk.Grant.the-variants as grant
 use Rattle.tags.specs.declared.verdict.Verdict.{Verdict}
-use Rattle.tags.specs.declared.verdict.Verdict.the-variants.{Free, Whole, Allocated, BadTag, BadFill, BadRedzone, BadSizeCode, Overrun}
-
--- ---- the tag
+use Rattle.tags.specs.declared.verdict.Verdict.the-variants.{Free, Whole, Allocated, Overrun}
+use Rattle.tags.specs.declared.tag.State.the-variants as state
+use Rattle.tags.specs.declared.chunk.Grant.the-variants as grant
 
 digit : (x y : ℕ) → x < 2 → y < 2 → differ x (differ x y) ≡ y
 digit zero y hx hy = refl
@@ -82,7 +78,7 @@ decode-code s most h k =
     let r : (251 * s + 1) % 251 ≡ 1 = omega arith in
     rw (q, r, le-leb 1 s h, le-leb s most k)
 
-and-true : (a b : Bool) → a && b ≡ true → (a ≡ true) × (b ≡ true)
+pub and-true : (a b : Bool) → a && b ≡ true → (a ≡ true) × (b ≡ true)
 and-true true b e = (refl, e)
 and-true false b e = absurd (let z : _≡_ {A = ℕ} 0 1 = cc in omega arith)
 

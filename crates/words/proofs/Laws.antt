@@ -1,4 +1,5 @@
 -- The laws of parts, of numbers in bytes and of repeated words that callers need, each stated once over offset, length and width. Assumes nothing.
+-- ---- a part of a list
 use mathlib.Core.Path.{_≡_, refl, sym, ap, _∙_, subst}
 use mathlib.Core.Logic.{_≢_, _⊎_, inl, inr}
 use mathlib.Core.Bool.{Bool, true, false}
@@ -11,14 +12,12 @@ use native.Mathlib.Omega.{arith}
 use borrow.Author.Tests.{eq-eqb, ne-eqb}
 use lib.Arith.{digits-lt, mod-mul}
 use lib.Dec.{lit<, eqb}
-use lib.ListN.{length, take, drop, getD, set, length-take, length-drop, length-append, length-set, List·getD-append, List·getD-eq-default}
-use lib.Seq.{sets, sets-eq, length-sets, take-take, take-length, drop-drop, drop-append-le, drop-append-add, take-append-le, take-append-seam, drop-at, length-take-le, drop-set-add, take-set-le, take-set-lt, drop-set-lt, drop-cons, getD-take, getD-drop, getD-append-seam, getD-append-add, getD-at}
+use lib.ListN.{length, take, drop, getD, set, length-take, length-drop, length-append, List·getD-append, List·getD-eq-default}
+use lib.Seq.{sets, sets-eq, take-take, take-length, drop-drop, drop-append-le, drop-append-add, take-append-le, take-append-seam, drop-at, length-take-le, drop-set-add, take-set-le, take-set-lt, drop-set-lt, drop-cons, getD-take, getD-drop, getD-at}
 use Rattle.words.specs.Word.{part, number, bytesOf, numberAt, AreBytes}
 use Rattle.words.specs.Run.{pick, repeated, differenceFrom, difference}
 use Rattle.words.specs.declared.run.Difference.{Difference}
 use Rattle.words.specs.declared.run.Difference.the-variants.{At, Nowhere}
-
--- ---- a part of a list
 
 pub length-part : (l : List ℕ) (at len : ℕ) → at + len ≤ length l → length (part l at len) ≡ len
 unfolding part

@@ -1,33 +1,24 @@
 -- The two words are read where the tag stands. Assumes nothing.
-use Rattle.tags.specs.Chunk.{tagAt}
 use borrow.Author.Needs.{needs}
+use Rattle.tags.specs.Chunk.{tagAt}
 use Rattle.tags.proofs.chunk.read_tag.Statement.{statement}
 use Rattle.tags.proofs.chunk.read_tag.Tie as tie
-use Rattle.tags.proofs.chunk.read_tag.Reads as reads
-use Rattle.tags.proofs.chunk.read_tag.Lts as lts
-use Rattle.words.proofs.word.read_u32.Reads as read-u32-reads
 
--- src/chunk.rt:72:16
 sub-size : tie.Need-sub-size
 sub-size c = search needs
 
--- src/chunk.rt:74:35
 add-read-u32 : tie.Need-add-read-u32
 add-read-u32 c = search needs
 
--- src/chunk.rt:74:13
 read-u32-requires : tie.Need-read-u32-requires
 read-u32-requires c κs = search needs
 
--- src/chunk.rt:75:35
 add-read-u32-2 : tie.Need-add-read-u32-2
 add-read-u32-2 c = search needs
 
--- src/chunk.rt:75:13
 read-u32-requires-2 : tie.Need-read-u32-requires-2
 read-u32-requires-2 c κs = search needs
 
--- src/chunk.rt:68:1
 returns : tie.Need-returns
 unfolding tagAt
 returns c = cc

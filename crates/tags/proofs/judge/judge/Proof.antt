@@ -1,54 +1,38 @@
 -- The pattern of the chunk's own tag picks the rules. Assumes nothing.
-use Rattle.tags.specs.Judge.{chunkVerdict}
 use borrow.Author.Needs.{needs}
+use Rattle.tags.specs.Judge.{chunkVerdict}
 use Rattle.tags.proofs.judge.judge.Statement.{statement}
 use Rattle.tags.proofs.judge.judge.Tie as tie
-use Rattle.tags.proofs.judge.judge.Reads as reads
-use Rattle.tags.proofs.judge.judge.Lts as lts
-use Rattle.tags.proofs.chunk.read_tag.Reads as read-tag-reads
-use Rattle.tags.proofs.judge.judge_allocated.Reads as judge-allocated-reads
-use Rattle.tags.proofs.judge.judge_free.Reads as judge-free-reads
-use Rattle.tags.proofs.tag.Tag.pattern.Reads as pattern-reads
 
--- src/judge.rt:88:13
 read-tag-requires : tie.Need-read-tag-requires
 read-tag-requires c κs = search needs
 
--- src/judge.rt:88:9
 pattern-requires : tie.Need-pattern-requires
 pattern-requires c κs = search needs
 
--- src/judge.rt:90:29
 enum-told : tie.Need-enum-told
 enum-told c = search needs
 
--- src/judge.rt:91:26
 enum-told-2 : tie.Need-enum-told-2
 enum-told-2 c = search needs
 
--- src/judge.rt:91:26
 judge-free-requires : tie.Need-judge-free-requires
 judge-free-requires c κs = search needs
 
--- src/judge.rt:92:31
 enum-told-3 : tie.Need-enum-told-3
 enum-told-3 c = search needs
 
--- src/judge.rt:92:31
 judge-allocated-requires : tie.Need-judge-allocated-requires
 judge-allocated-requires c κs = search needs
 
--- src/judge.rt:84:1
 returns : tie.Need-returns
 unfolding chunkVerdict
 returns c = rw (← c .before .before .before .read-tag .ensures, ← c .before .before .pattern .ensures, c .enum-told .given .1)
 
--- src/judge.rt:84:1
 returns-2 : tie.Need-returns-2
 unfolding chunkVerdict
 returns-2 c = rw (← c .before .before .before .before .read-tag .ensures, ← c .before .before .before .pattern .ensures, c .before .enum-told2 .given .1) (c .judge-free .ensures)
 
--- src/judge.rt:84:1
 returns-3 : tie.Need-returns-3
 unfolding chunkVerdict
 returns-3 c = rw (← c .before .before .before .before .read-tag .ensures, ← c .before .before .before .pattern .ensures, c .before .enum-told3 .given .1) (c .judge-allocated .ensures)

@@ -1,67 +1,47 @@
 -- R1 is the redzone word, or a size code that is decoded. Assumes nothing.
-use Rattle.tags.proofs.Laws.{decoded-within}
-use Rattle.tags.specs.Judge.{allocatedVerdict}
 use mathlib.Core.Path.{sym, _∙_}
 use borrow.Author.Tests.{eq-eqb, ne-eqb}
 use borrow.Author.Needs.{needs}
-use native.Mathlib.Omega.{arith}
-use borrow.Author.Needs.{needs}
+use Rattle.tags.proofs.Laws.{decoded-within}
+use Rattle.tags.specs.Judge.{allocatedVerdict}
 use Rattle.tags.proofs.judge.judge_allocated.Statement.{statement}
 use Rattle.tags.proofs.judge.judge_allocated.Tie as tie
-use Rattle.tags.proofs.judge.judge_allocated.Reads as reads
-use Rattle.tags.proofs.judge.judge_allocated.Lts as lts
-use Rattle.tags.proofs.judge.judge_sized.Reads as judge-sized-reads
-use Rattle.tags.proofs.judge.judge_zone.Reads as judge-zone-reads
-use Rattle.tags.proofs.size_code.decode.Reads as decode-reads
-use Rattle.words.proofs.word.read_u32.Reads as read-u32-reads
 
--- src/judge.rt:71:16
 sub-size : tie.Need-sub-size
 sub-size c = search needs
 
--- src/judge.rt:72:36
 add-read-u32 : tie.Need-add-read-u32
 add-read-u32 c = search needs
 
--- src/judge.rt:72:9
 read-u32-requires : tie.Need-read-u32-requires
 read-u32-requires c κs = search needs
 
--- src/judge.rt:74:9
 judge-zone-requires : tie.Need-judge-zone-requires
 judge-zone-requires c κs = search needs
 
--- src/judge.rt:74:9
 returns : tie.Need-returns
 unfolding allocatedVerdict
 returns c = rw (← c .before .before .read-u32 .ensures, eq-eqb _ _ (c .before .if1 .taken)) (c .judge-zone .ensures)
 
--- src/judge.rt:76:38
 cast-decode : tie.Need-cast-decode
 cast-decode c = search needs
 
--- src/judge.rt:76:9
 decode-requires : tie.Need-decode-requires
 decode-requires c κs = search needs
 
--- src/judge.rt:78:25
 enum-told : tie.Need-enum-told
 enum-told c = search needs
 
--- src/judge.rt:79:23
 enum-known-code : tie.Need-enum-known-code
 enum-known-code c = search needs
 
--- src/judge.rt:79:29
 judge-sized-requires : tie.Need-judge-sized-requires
 judge-sized-requires c κs = (search needs, decoded-within _ _ _ (sym (c .before .before .before .decode .ensures) ∙ c .before .code .given .1) .1)
 
--- src/judge.rt:67:1
 returns-2 : tie.Need-returns-2
 unfolding allocatedVerdict
 returns-2 c = rw (← c .before .before .before .before .read-u32 .ensures, ne-eqb _ _ (c .before .before .before .if1 .left), ← c .before .before .decode .ensures, c .enum-told .given .1)
 
--- src/judge.rt:67:1
 returns-3 : tie.Need-returns-3
 unfolding allocatedVerdict
 returns-3 c = rw (← c .before .before .before .before .before .before .read-u32 .ensures, ne-eqb _ _ (c .before .before .before .before .before .if1 .left), ← c .before .before .before .before .decode .ensures, c .before .before .code .given .1) (c .judge-sized .ensures)

@@ -1,32 +1,24 @@
-use Rattle.words.proofs.Laws.{run-within}
 -- The fill and then the redzone are compared as the rule has them. Assumes nothing.
-use Rattle.tags.specs.Judge.{freeVerdict}
-use native.Mathlib.Omega.{arith}
 use Prim.Native.Nat.{_<_}
+use native.Mathlib.Omega.{arith}
 use borrow.Author.Needs.{needs}
+use Rattle.words.proofs.Laws.{run-within}
+use Rattle.tags.specs.Judge.{freeVerdict}
 use Rattle.tags.proofs.judge.judge_free.Statement.{statement}
 use Rattle.tags.proofs.judge.judge_free.Tie as tie
-use Rattle.tags.proofs.judge.judge_free.Reads as reads
-use Rattle.tags.proofs.judge.judge_free.Lts as lts
-use Rattle.words.proofs.run.first_difference.Reads as first-difference-reads
 
--- src/judge.rt:25:16
 sub-size : tie.Need-sub-size
 sub-size c = search needs
 
--- src/judge.rt:26:9
 first-difference-requires : tie.Need-first-difference-requires
 first-difference-requires c κs = search needs
 
--- src/judge.rt:27:27
 enum-known-fill : tie.Need-enum-known-fill
 enum-known-fill c = search needs
 
--- src/judge.rt:28:33
 cast-t8 : tie.Need-cast-t8
 cast-t8 c = omega (arith, run-within _ _ _ _ (omega arith) _ _ (c .before .before .before .first-difference .ensures) (c .before .fill .given .1))
 
--- src/judge.rt:28:9
 returns : tie.Need-returns
 unfolding freeVerdict
 returns c = rw (← c .before .before .before .first-difference .ensures, c .before .fill .given .1)
@@ -34,11 +26,9 @@ returns c = rw (← c .before .before .before .first-difference .ensures, c .bef
 enum-told : tie.Need-enum-told
 enum-told c = search needs
 
--- src/judge.rt:30:9
 first-difference-requires-2 : tie.Need-first-difference-requires-2
 first-difference-requires-2 c κs = search needs
 
--- src/judge.rt:32:24
 enum-known-zone : tie.Need-enum-known-zone
 enum-known-zone c = search needs
 
@@ -46,24 +36,19 @@ enum-known-zone c = search needs
 zone-inside : (c : tie.After-known-told2) → c .before .zone .given .0 .0 < 8
 zone-inside c = run-within _ _ _ _ (omega arith) _ _ (c .before .before .before .first-difference2 .ensures) (c .before .zone .given .1)
 
--- src/judge.rt:32:51
 add-t10 : tie.Need-add-t10
 add-t10 c = omega (arith, zone-inside c)
 
--- src/judge.rt:32:50
 cast-t11 : tie.Need-cast-t11
 cast-t11 c = omega (arith, zone-inside c)
 
--- src/judge.rt:33:32
 enum-told-2 : tie.Need-enum-told-2
 enum-told-2 c = search needs
 
--- src/judge.rt:21:1
 returns-2 : tie.Need-returns-2
 unfolding freeVerdict
 returns-2 c = rw (← c .before .before .before .before .before .before .first-difference .ensures, c .before .before .before .before .enum-told .given .1, ← c .before .before .before .first-difference2 .ensures, c .before .zone .given .1)
 
--- src/judge.rt:21:1
 returns-3 : tie.Need-returns-3
 unfolding freeVerdict
 returns-3 c = rw (← c .before .before .before .before .before .first-difference .ensures, c .before .before .before .enum-told .given .1, ← c .before .before .first-difference2 .ensures, c .enum-told2 .given .1)

@@ -1,24 +1,18 @@
-use Prim.Native.Nat.{_<_}
 -- R0's first difference is the rule's. Assumes nothing.
-use Rattle.tags.proofs.Laws.{zone-at, zone-sound}
-use Rattle.words.proofs.Laws.{run-within}
+use Prim.Native.Nat.{_<_}
 use native.Mathlib.Omega.{arith}
 use borrow.Author.Needs.{needs}
+use Rattle.tags.proofs.Laws.{zone-at, zone-sound}
+use Rattle.words.proofs.Laws.{run-within}
 use Rattle.tags.proofs.judge.judge_zone.Statement.{statement}
 use Rattle.tags.proofs.judge.judge_zone.Tie as tie
-use Rattle.tags.proofs.judge.judge_zone.Reads as reads
-use Rattle.tags.proofs.judge.judge_zone.Lts as lts
-use Rattle.words.proofs.run.first_difference.Reads as first-difference-reads
 
--- src/judge.rt:42:16
 sub-size : tie.Need-sub-size
 sub-size c = search needs
 
--- src/judge.rt:43:9
 first-difference-requires : tie.Need-first-difference-requires
 first-difference-requires c κs = search needs
 
--- src/judge.rt:45:24
 enum-known-d : tie.Need-enum-known-d
 enum-known-d c = search needs
 
@@ -26,23 +20,18 @@ enum-known-d c = search needs
 inside : (c : tie.After-known-told) → c .before .d .given .0 .0 < 4
 inside c = run-within _ _ _ _ (omega arith) _ _ (c .before .before .before .first-difference .ensures) (c .before .d .given .1)
 
--- src/judge.rt:45:48
 add-t9 : tie.Need-add-t9
 add-t9 c = omega (arith, inside c)
 
--- src/judge.rt:45:47
 cast-t10 : tie.Need-cast-t10
 cast-t10 c = omega (arith, inside c)
 
--- src/judge.rt:46:32
 enum-told : tie.Need-enum-told
 enum-told c = search needs
 
--- src/judge.rt:38:1
 returns : tie.Need-returns
 returns c = zone-at _ _ _ _ _ (c .before .before .before .first-difference .ensures) (c .before .d .given .1)
 
--- src/judge.rt:38:1
 returns-2 : tie.Need-returns-2
 returns-2 c = zone-sound _ _ _ _ (c .before .before .first-difference .ensures) (c .enum-told .given .1)
 

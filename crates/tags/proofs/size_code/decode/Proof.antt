@@ -1,29 +1,23 @@
 -- Each test of the code is one of the rule's, in its order. Assumes nothing.
-use Rattle.tags.specs.SizeCode.{decodedOf}
-use borrow.Author.Tests.{eq-eqb, ne-eqb, le-leb, lt-leb}
 use Prim.Native.Nat.{_/_}
 use native.Mathlib.Omega.{arith}
+use borrow.Author.Tests.{eq-eqb, ne-eqb, le-leb, lt-leb}
+use Rattle.tags.specs.SizeCode.{decodedOf}
 use Rattle.tags.proofs.size_code.decode.Statement.{statement}
 use Rattle.tags.proofs.size_code.decode.Tie as tie
-use Rattle.tags.proofs.size_code.decode.Reads as reads
-use Rattle.tags.proofs.size_code.decode.Lts as lts
 
--- src/size_code.rt:26:9
 returns : tie.Need-returns
 unfolding decodedOf
 returns c = rw (ne-eqb _ _ (c .if1 .taken))
 
--- src/size_code.rt:30:9
 returns-2 : tie.Need-returns-2
 unfolding decodedOf
 returns-2 c = rw (eq-eqb _ _ (c .before .if1 .left), c .if2 .taken)
 
--- src/size_code.rt:33:9
 returns-3 : tie.Need-returns-3
 unfolding decodedOf
 returns-3 c = rw (eq-eqb _ _ (c .before .before .if1 .left), le-leb 1 (c .before .before .before .args .code / 251) (omega arith), lt-leb _ _ (c .if3 .taken))
 
--- src/size_code.rt:22:1
 returns-4 : tie.Need-returns-4
 unfolding decodedOf
 returns-4 c = rw (eq-eqb _ _ (c .before .before .if1 .left), le-leb 1 (c .before .before .before .args .code / 251) (omega arith), le-leb _ _ (c .if3 .left))

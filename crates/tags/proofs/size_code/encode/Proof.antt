@@ -1,20 +1,15 @@
 -- The product fits since a size is at most 4,096. Assumes nothing.
-use Rattle.tags.specs.SizeCode.{codeOf}
 use borrow.Author.Needs.{needs}
+use Rattle.tags.specs.SizeCode.{codeOf}
 use Rattle.tags.proofs.size_code.encode.Statement.{statement}
 use Rattle.tags.proofs.size_code.encode.Tie as tie
-use Rattle.tags.proofs.size_code.encode.Reads as reads
-use Rattle.tags.proofs.size_code.encode.Lts as lts
 
--- src/size_code.rt:17:5
 mul-result : tie.Need-mul-result
 mul-result c = search needs
 
--- src/size_code.rt:17:5
 add-result : tie.Need-add-result
 add-result c = search needs
 
--- src/size_code.rt:13:1
 returns : tie.Need-returns
 unfolding codeOf
 returns c = search needs

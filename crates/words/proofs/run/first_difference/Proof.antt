@@ -1,19 +1,15 @@
-use Rattle.words.proofs.Laws.{run-differs, run-same}
-use borrow.Author.Count.{below-more}
-use mathlib.Core.List.{List}
-use mathlib.Core.Path.{sym, ap, _∙_, subst}
 -- The loop's invariant: no byte before i differs. Assumes nothing.
-use Rattle.words.specs.Word.{bytesOf}
-use lib.ListN.{length, getD}
-use borrow.Author.Needs.{needs}
-use native.Mathlib.Omega.{arith}
+use mathlib.Core.List.{List}
+use mathlib.Core.Path.{sym, ap, _∙_, _≡_}
 use Prim.Native.Nat.{ℕ, _≤_, _<_, _-_, _+_, _%_}
-use mathlib.Core.Path.{_≡_}
+use native.Mathlib.Omega.{arith}
+use borrow.Author.Count.{below-more}
+use borrow.Author.Needs.{needs}
+use lib.ListN.{getD}
+use Rattle.words.proofs.Laws.{run-differs, run-same}
+use Rattle.words.specs.Word.{bytesOf}
 use Rattle.words.proofs.run.first_difference.Statement.{statement}
 use Rattle.words.proofs.run.first_difference.Tie as tie
-use Rattle.words.proofs.run.first_difference.Reads as reads
-use Rattle.words.proofs.run.first_difference.Lts as lts
-use Rattle.words.proofs.word.bytes4.Reads as bytes4-reads
 
 abbrev Inv-loop : tie.InvT-loop
 Inv-loop s at len w pattern i₀ i = (pattern ≡ bytesOf 4 w) × (i ≤ len) × ((k : ℕ) → k < i → getD s (at + k) 0 ≡ getD (bytesOf 4 w) (k % 4) 0)
@@ -21,47 +17,37 @@ Inv-loop s at len w pattern i₀ i = (pattern ≡ bytesOf 4 w) × (i ≤ len) ×
 abbrev μ-loop : tie.MeasureT-loop
 μ-loop s at len w pattern i₀ i = len - i
 
--- src/run.rt:36:19
 bytes4-requires : tie.Need-bytes4-requires Inv-loop μ-loop
 bytes4-requires c κs = search needs
 
--- src/run.rt:38:5
 loop-holds : tie.Need-loop-holds Inv-loop μ-loop
 loop-holds c = search needs
 
--- src/run.rt:39:14
 add-if1 : tie.Need-add-if1 Inv-loop μ-loop
 add-if1 c = search needs
 
--- src/run.rt:39:12
 shared-slice-read-if1 : tie.Need-shared-slice-read-if1 Inv-loop μ-loop
 shared-slice-read-if1 c = search needs
 
--- src/run.rt:39:25
 array-read-if1 : tie.Need-array-read-if1 Inv-loop μ-loop
 array-read-if1 c = search needs
 
--- src/run.rt:40:13
 returns : tie.Need-returns Inv-loop μ-loop
 returns c =
     let p = c .before .before .before in
     sym (run-differs _ _ _ _ (omega arith) _ (omega arith) (p .loop .inv .2) (λ e. c .if1 .taken (e ∙ ap (λ (l : List ℕ). getD l (p .loop .i % 4) 0) (sym (p .loop .inv .0)))))
 
--- src/run.rt:42:9
 add-i : tie.Need-add-i Inv-loop μ-loop
 add-i c = search needs
 
--- src/run.rt:38:5
 loop-less : tie.Need-loop-less Inv-loop μ-loop
 loop-less c = search needs
 
--- src/run.rt:38:5
 loop-again : tie.Need-loop-again Inv-loop μ-loop
 loop-again c =
     let p = c .before .before .before in
     (search needs, search needs, below-more _ _ (p .loop .inv .2) (c .if1 .left ∙ ap (λ (l : List ℕ). getD l (p .loop .i % 4) 0) (p .loop .inv .0)))
 
--- src/run.rt:32:1
 returns-2 : tie.Need-returns-2 Inv-loop μ-loop
 returns-2 c =
     let e : c .before .loop .i ≡ c .before .before .before .before .args .len = omega arith in

@@ -1,21 +1,15 @@
 -- Each byte is the lowest of the number divided by a power of 256. Assumes nothing.
-use Rattle.words.proofs.Laws.{two-bytes}
 use borrow.Author.Needs.{needs}
+use Rattle.words.proofs.Laws.{two-bytes}
 use Rattle.words.proofs.word.bytes2.Statement.{statement}
 use Rattle.words.proofs.word.bytes2.Tie as tie
-use Rattle.words.proofs.word.bytes2.Reads as reads
-use Rattle.words.proofs.word.bytes2.Lts as lts
-use Rattle.words.proofs.word.low.Reads as low-reads
 
--- src/word.rt:34:6
 low-requires : tie.Need-low-requires
 low-requires c κs = search needs
 
--- src/word.rt:34:27
 low-requires-2 : tie.Need-low-requires-2
 low-requires-2 c κs = search needs
 
--- src/word.rt:31:1
 returns : tie.Need-returns
 returns c = two-bytes _ _ _ (c .before .low .ensures) (c .low2 .ensures)
 

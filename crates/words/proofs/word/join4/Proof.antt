@@ -1,36 +1,27 @@
 -- The sum is the number of the bytes. Assumes nothing.
-use Rattle.words.specs.Word.{number}
 use borrow.Author.Needs.{needs}
+use Rattle.words.specs.Word.{number}
 use Rattle.words.proofs.word.join4.Statement.{statement}
 use Rattle.words.proofs.word.join4.Tie as tie
-use Rattle.words.proofs.word.join4.Reads as reads
-use Rattle.words.proofs.word.join4.Lts as lts
 
--- src/word.rt:20:5
 mul-result : tie.Need-mul-result
 mul-result c = search needs
 
--- src/word.rt:20:29
 mul-result-2 : tie.Need-mul-result-2
 mul-result-2 c = search needs
 
--- src/word.rt:20:5
 add-result : tie.Need-add-result
 add-result c = search needs
 
--- src/word.rt:20:50
 mul-result-3 : tie.Need-mul-result-3
 mul-result-3 c = search needs
 
--- src/word.rt:20:5
 add-result-2 : tie.Need-add-result-2
 add-result-2 c = search needs
 
--- src/word.rt:20:5
 add-result-3 : tie.Need-add-result-3
 add-result-3 c = search needs
 
--- src/word.rt:17:1
 returns : tie.Need-returns
 unfolding number
 returns c = search needs

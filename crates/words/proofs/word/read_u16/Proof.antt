@@ -1,31 +1,23 @@
 -- The bytes that are joined are those of the number. Assumes nothing.
-use Rattle.words.proofs.Laws.{two-read}
-use native.Mathlib.Omega.{arith}
 use mathlib.Core.Path.{_∙_}
+use native.Mathlib.Omega.{arith}
 use borrow.Author.Needs.{needs}
+use Rattle.words.proofs.Laws.{two-read}
 use Rattle.words.proofs.word.read_u16.Statement.{statement}
 use Rattle.words.proofs.word.read_u16.Tie as tie
-use Rattle.words.proofs.word.read_u16.Reads as reads
-use Rattle.words.proofs.word.read_u16.Lts as lts
-use Rattle.words.proofs.word.join2.Reads as join2-reads
 
--- src/word.rt:57:11
 shared-slice-read-join2 : tie.Need-shared-slice-read-join2
 shared-slice-read-join2 c = search needs
 
--- src/word.rt:57:20
 add-join2 : tie.Need-add-join2
 add-join2 c = search needs
 
--- src/word.rt:57:18
 shared-slice-read-join2-2 : tie.Need-shared-slice-read-join2-2
 shared-slice-read-join2-2 c = search needs
 
--- src/word.rt:57:5
 join2-requires : tie.Need-join2-requires
 join2-requires c κs = search needs
 
--- src/word.rt:53:1
 returns : tie.Need-returns
 returns c = c .join2 .ensures ∙ two-read _ _ (omega arith)
 

@@ -1,43 +1,32 @@
 -- The stores lay the number's bytes one after the other. Assumes nothing.
-use Rattle.words.proofs.Laws.{two-stores}
-use lib.ListN.{length-set}
 use native.Mathlib.Omega.{arith}
 use borrow.Author.Needs.{needs}
+use lib.ListN.{length-set}
+use Rattle.words.proofs.Laws.{two-stores}
 use Rattle.words.proofs.word.write_u16.Statement.{statement}
 use Rattle.words.proofs.word.write_u16.Tie as tie
-use Rattle.words.proofs.word.write_u16.Reads as reads
-use Rattle.words.proofs.word.write_u16.Lts as lts
-use Rattle.words.proofs.word.bytes2.Reads as bytes2-reads
 
--- src/word.rt:81:13
 bytes2-requires : tie.Need-bytes2-requires
 bytes2-requires c κs = search needs
 
--- src/word.rt:82:13
 array-read-s : tie.Need-array-read-s
 array-read-s c = search needs
 
--- src/word.rt:82:5
 slice-write-s : tie.Need-slice-write-s
 slice-write-s c = search needs
 
--- src/word.rt:83:17
 array-read-s-2 : tie.Need-array-read-s-2
 array-read-s-2 c = search needs
 
--- src/word.rt:83:7
 add-s : tie.Need-add-s
 add-s c = search needs
 
--- src/word.rt:83:5
 slice-write-s-2 : tie.Need-slice-write-s-2
 slice-write-s-2 c = simp length-set (omega arith)
 
--- src/word.rt:77:1
 same-length : tie.Need-same-length
 same-length c = search needs
 
--- src/word.rt:77:1
 returns : tie.Need-returns
 returns c = two-stores _ _ _ _ (c .bytes2 .ensures)
 

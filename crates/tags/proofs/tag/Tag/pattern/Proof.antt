@@ -1,22 +1,17 @@
 -- The xor is compared with the two patterns in the rule's order. Assumes nothing.
-use Rattle.tags.specs.Tag.{patternOf, patternWord}
 use borrow.Author.Tests.{eq-eqb, ne-eqb}
+use Rattle.tags.specs.Tag.{patternOf, patternWord}
 use Rattle.tags.proofs.tag.Tag.pattern.Statement.{statement}
 use Rattle.tags.proofs.tag.Tag.pattern.Tie as tie
-use Rattle.tags.proofs.tag.Tag.pattern.Reads as reads
-use Rattle.tags.proofs.tag.Tag.pattern.Lts as lts
 
--- src/tag.rt:50:13
 returns : tie.Need-returns
 unfolding patternOf patternWord
 returns c = rw (eq-eqb _ _ (c .if1 .taken))
 
--- src/tag.rt:53:13
 returns-2 : tie.Need-returns-2
 unfolding patternOf patternWord
 returns-2 c = rw (ne-eqb _ _ (c .before .if1 .left), eq-eqb _ _ (c .if2 .taken))
 
--- src/tag.rt:45:5
 returns-3 : tie.Need-returns-3
 unfolding patternOf patternWord
 returns-3 c = rw (ne-eqb _ _ (c .before .if1 .left), ne-eqb _ _ (c .if2 .left))
