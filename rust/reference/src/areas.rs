@@ -1,0 +1,136 @@
+//! The heap and record areas with their sheet, and which addresses lie in them.
+
+use crate::chunk::Chunk;
+use crate::sheet::Sheet;
+use crate::Refusal;
+
+/// "n records of 96 bytes."
+pub const RECORD_SIZE: usize = 96;
+
+/// Where a record's words stand: "next at 0, buffer address 4, slab 8, cache 12,
+/// timestamp 16 (eight bytes), thread 24".
+pub const NEXT_AT: usize = 0;
+pub const ADDRESS_AT: usize = 4;
+pub const CACHE_AT: usize = 12;
+pub const STAMP_HIGH_AT: usize = 16;
+pub const STAMP_LOW_AT: usize = 20;
+pub const THREAD_AT: usize = 24;
+
+/// "The log is 0 to 1,024 rows of 16 bytes: record address, uptime, thread, kind."
+pub const ROW_SIZE: usize = 16;
+pub const MOST_LOG_BYTES: usize = 16_384;
+
+/// "All numbers are big-endian": the four-byte word at an offset.
+pub fn word(bytes: &[u8], at: usize) -> u32 {
+    u32::from_be_bytes([bytes[at], bytes[at + 1], bytes[at + 2], bytes[at + 3]])
+}
+
+/// Writes a four-byte word at an offset.
+pub fn put_word(bytes: &mut [u8], at: usize, word: u32) {
+    bytes[at..at + 4].copy_from_slice(&word.to_be_bytes());
+}
+
+/// A lawful sheet with a heap area and a record area of the right lengths.
+pub struct Areas<'a> {
+    pub sheet: Sheet,
+    pub heap: &'a [u8],
+    pub records: &'a [u8],
+}
+
+impl<'a> Areas<'a> {
+    /// "Order: 1, 2, 3 always", where no log is given.
+    pub fn read(sheet: &[u8], heap: &'a [u8], records: &'a [u8]) -> Result<Areas<'a>, Refusal> {
+        let sheet = Sheet::read(sheet)?;
+        if heap.len() != sheet.heap_length() || records.len() != sheet.record_length() {
+            return Err(Refusal::plain(3));
+        }
+        Ok(Areas {
+            sheet,
+            heap,
+            records,
+        })
+    }
+
+    /// "3 tests the log where one is given": "log not a multiple of 16 or over 16,384".
+    pub fn read_with_log(
+        sheet: &[u8],
+        heap: &'a [u8],
+        records: &'a [u8],
+        log: &[u8],
+    ) -> Result<Areas<'a>, Refusal> {
+        let areas = Areas::read(sheet, heap, records)?;
+        if !log.len().is_multiple_of(ROW_SIZE) || log.len() > MOST_LOG_BYTES {
+            return Err(Refusal::plain(3));
+        }
+        Ok(areas)
+    }
+
+    /// The count of buffers n, which is also the count of records.
+    pub fn count(&self) -> usize {
+        self.sheet.count as usize
+    }
+
+    /// The address of buffer `index`, the start of its chunk.
+    pub fn buffer_address(&self, index: usize) -> u32 {
+        self.sheet.heap_base + self.sheet.chunk_size * index as u32
+    }
+
+    /// The address of record `index`.
+    pub fn record_address(&self, index: usize) -> u32 {
+        self.sheet.record_base + RECORD_SIZE as u32 * index as u32
+    }
+
+    /// The buffer that starts at an address, if one does.
+    pub fn buffer_at(&self, address: u32) -> Option<usize> {
+        self.index_of(address, self.sheet.heap_base, self.sheet.chunk_size)
+    }
+
+    /// The record that starts at an address, if one does.
+    pub fn record_at(&self, address: u32) -> Option<usize> {
+        self.index_of(address, self.sheet.record_base, RECORD_SIZE as u32)
+    }
+
+    /// Which of the n parts, `step` bytes each from `base` on, starts at an address.
+    fn index_of(&self, address: u32, base: u32, step: u32) -> Option<usize> {
+        let distance = address.checked_sub(base)?;
+        let index = distance / step;
+        let is_start = distance.is_multiple_of(step) && index < self.sheet.count;
+        is_start.then_some(index as usize)
+    }
+
+    /// The chunk of buffer `index`.
+    pub fn chunk(&self, index: usize) -> Chunk<'a> {
+        let chunk_size = self.sheet.chunk_size as usize;
+        let start = index * chunk_size;
+        let bytes = &self.heap[start..start + chunk_size];
+        Chunk::new(bytes, self.sheet.size as usize)
+    }
+
+    /// The word at an offset in record `index`.
+    pub fn record_word(&self, index: usize, at: usize) -> u32 {
+        word(self.records, index * RECORD_SIZE + at)
+    }
+
+    /// The buffer that record `index` names by its address word, if it names one.
+    pub fn named_buffer(&self, index: usize) -> Option<usize> {
+        self.buffer_at(self.record_word(index, ADDRESS_AT))
+    }
+
+    /// For each buffer its own record, "the one record whose address word names
+    /// the buffer"; none where not exactly one record names it.
+    pub fn own_records(&self) -> Vec<Option<usize>> {
+        let mut namers = vec![Vec::new(); self.count()];
+        for record in 0..self.count() {
+            if let Some(buffer) = self.named_buffer(record) {
+                namers[buffer].push(record);
+            }
+        }
+        namers
+            .iter()
+            .map(|names| match names[..] {
+                [own] => Some(own),
+                _ => None,
+            })
+            .collect()
+    }
+}

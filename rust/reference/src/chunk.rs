@@ -1,0 +1,157 @@
+//! One chunk: "buffer bytes; then redzone words R0 and R1; then T0, the record's
+//! address, and T1". How it is written and how it is judged by itself.
+
+use crate::areas::{put_word, word};
+use crate::Verdict;
+
+/// "The tag word T0 xor T1 has two named patterns."
+#[derive(Clone, Copy, PartialEq, Eq, Debug)]
+pub enum Pattern {
+    Allocated,
+    Free,
+}
+
+const ALLOCATED_TAG: u32 = 0xa110_c8ed;
+const FREE_TAG: u32 = 0xf4ee_f4ee;
+
+const FREE_FILL: [u8; 4] = [0xde, 0xad, 0xbe, 0xef];
+const GRANTED_FILL: [u8; 4] = [0xba, 0xdd, 0xca, 0xfe];
+const REDZONE: [u8; 4] = [0xfe, 0xed, 0xfa, 0xce];
+const REDZONE_WORD: u32 = 0xfeed_face;
+const GUARD: u8 = 0xbb;
+
+/// What was granted: the whole buffer, or so many bytes of it.
+#[derive(Clone, Copy, PartialEq, Eq, Debug)]
+pub enum Grant {
+    Whole,
+    Sized(u32),
+}
+
+/// The bytes of one chunk and its buffer size.
+#[derive(Clone, Copy)]
+pub struct Chunk<'a> {
+    bytes: &'a [u8],
+    size: usize,
+}
+
+impl<'a> Chunk<'a> {
+    pub fn new(bytes: &'a [u8], size: usize) -> Chunk<'a> {
+        Chunk { bytes, size }
+    }
+
+    fn r0(&self) -> &'a [u8] {
+        &self.bytes[self.size..self.size + 4]
+    }
+
+    fn r1(&self) -> u32 {
+        word(self.bytes, self.size + 4)
+    }
+
+    pub fn t0(&self) -> u32 {
+        word(self.bytes, self.size + 8)
+    }
+
+    fn t1(&self) -> u32 {
+        word(self.bytes, self.size + 12)
+    }
+
+    /// "0xa110c8ed when allocated and 0xf4eef4ee when free"; none for any other xor.
+    pub fn pattern(&self) -> Option<Pattern> {
+        match self.t0() ^ self.t1() {
+            ALLOCATED_TAG => Some(Pattern::Allocated),
+            FREE_TAG => Some(Pattern::Free),
+            _ => None,
+        }
+    }
+
+    /// "Free pattern: 25 if the fill differs; 26 if the redzone differs; each with
+    /// the first differing byte offset from the buffer's start. Else 0, free."
+    pub fn judge_free(&self) -> Verdict {
+        let redzone = &self.bytes[self.size..self.size + 8];
+        if let Some(offset) = first_difference(&self.bytes[..self.size], FREE_FILL) {
+            return Verdict::FillDiffers(offset as u32);
+        }
+        if let Some(offset) = first_difference(redzone, REDZONE) {
+            return Verdict::RedzoneDiffers((self.size + offset) as u32);
+        }
+        Verdict::Free
+    }
+
+    /// "R1 = 0xfeedface: 28 with the first differing offset if R0 differs from
+    /// 0xfeedface; else 1, whole." Any other R1 is judged as a size code.
+    pub fn judge_allocated(&self) -> Verdict {
+        if self.r1() != REDZONE_WORD {
+            return self.judge_sized();
+        }
+        match first_difference(self.r0(), REDZONE) {
+            Some(offset) => Verdict::GuardDiffers((self.size + offset) as u32),
+            None => Verdict::Whole,
+        }
+    }
+
+    /// "Then s = R1/251: 28 at s if that byte isn't 0xbb; else 28 at R0's first
+    /// byte that differs from fe ed fa ce (with bb first when s is buffer size);
+    /// else 2, allocated s."
+    fn judge_sized(&self) -> Verdict {
+        let Some(s) = coded_size(self.r1(), self.size) else {
+            return Verdict::BadSizeCode;
+        };
+        if self.bytes[s] != GUARD {
+            return Verdict::GuardDiffers(s as u32);
+        }
+        let mut wanted = REDZONE;
+        if s == self.size {
+            wanted[0] = GUARD;
+        }
+        match first_difference(self.r0(), wanted) {
+            Some(offset) => Verdict::GuardDiffers((self.size + offset) as u32),
+            None => Verdict::Allocated(s as u32),
+        }
+    }
+}
+
+/// "27 unless R1 mod 251 is 1 and R1/251 is 1 to buffer size": the size, or none for 27.
+fn coded_size(r1: u32, size: usize) -> Option<usize> {
+    let s = (r1 / 251) as usize;
+    let is_code = r1 % 251 == 1 && (1..=size).contains(&s);
+    is_code.then_some(s)
+}
+
+/// The offset of the first byte that differs from the four wanted bytes repeated.
+fn first_difference(bytes: &[u8], wanted: [u8; 4]) -> Option<usize> {
+    bytes
+        .iter()
+        .zip(wanted.iter().cycle())
+        .position(|(byte, wanted)| byte != wanted)
+}
+
+/// Fills bytes with four bytes repeated.
+fn fill(bytes: &mut [u8], pattern: [u8; 4]) {
+    for (byte, wanted) in bytes.iter_mut().zip(pattern.iter().cycle()) {
+        *byte = *wanted;
+    }
+}
+
+/// "T0, the record's address, and T1": the two words whose xor is the pattern.
+fn put_tag(chunk: &mut [u8], size: usize, record_address: u32, tag: u32) {
+    put_word(chunk, size + 8, record_address);
+    put_word(chunk, size + 12, record_address ^ tag);
+}
+
+/// "Free: the buffer repeats de ad be ef; R0 and R1 are both 0xfeedface."
+pub fn write_free(chunk: &mut [u8], size: usize, record_address: u32) {
+    fill(&mut chunk[..size], FREE_FILL);
+    fill(&mut chunk[size..size + 8], REDZONE);
+    put_tag(chunk, size, record_address, FREE_TAG);
+}
+
+/// "Granted: the buffer is first filled with ba dd ca fe. A whole grant keeps both
+/// redzone words. A grant of s bytes puts 0xbb at offset s and 251*s+1 in R1."
+pub fn write_granted(chunk: &mut [u8], size: usize, record_address: u32, grant: Grant) {
+    fill(&mut chunk[..size], GRANTED_FILL);
+    if let Grant::Sized(s) = grant {
+        chunk[s as usize] = GUARD;
+        put_word(chunk, size + 4, 251 * s + 1);
+    }
+    put_tag(chunk, size, record_address, ALLOCATED_TAG);
+}

@@ -1,0 +1,73 @@
+//! The report's text.
+
+use crate::areas::Areas;
+use crate::chain::{walk, Chain, Ending};
+use crate::verdict::judge;
+use crate::{Refusal, Verdict};
+
+/// "The call answers the length filled; output past it stays."
+/// Refusals 1, 2, 3, then 11, "output shorter than the exact need".
+pub fn report(
+    sheet: &[u8],
+    heap: &[u8],
+    records: &[u8],
+    log: &[u8],
+    output: &mut [u8],
+) -> Result<usize, Refusal> {
+    let text = report_text(sheet, heap, records, log)?;
+    if output.len() < text.len() {
+        return Err(Refusal::plain(11));
+    }
+    output[..text.len()].copy_from_slice(text.as_bytes());
+    Ok(text.len())
+}
+
+/// The whole report, "one line per item", or refusal 1, 2 or 3.
+pub fn report_text(
+    sheet: &[u8],
+    heap: &[u8],
+    records: &[u8],
+    log: &[u8],
+) -> Result<String, Refusal> {
+    let areas = Areas::read_with_log(sheet, heap, records, log)?;
+    let chain = walk(&areas);
+    let verdicts = judge(&areas, &chain);
+    let faults = verdicts.iter().filter(|verdict| is_fault(**verdict));
+
+    let mut text = String::from("heap report 1\n");
+    for (index, verdict) in verdicts.iter().enumerate() {
+        text += &buffer_line(index, *verdict);
+    }
+    text += &chain_line(&chain);
+    text += &format!("faults {}\n", faults.count());
+    Ok(text)
+}
+
+/// "A fault is a verdict of 20 or more."
+fn is_fault(verdict: Verdict) -> bool {
+    verdict.number() >= 20
+}
+
+/// "`I free`, `I whole`, `I allocated S`, `I fault V` or, for 25, 26 and 28,
+/// `I fault V OFFSET`."
+fn buffer_line(index: usize, verdict: Verdict) -> String {
+    let value = verdict.value();
+    match verdict.number() {
+        0 => format!("{index} free\n"),
+        1 => format!("{index} whole\n"),
+        2 => format!("{index} allocated {value}\n"),
+        number @ (25 | 26 | 28) => format!("{index} fault {number} {value}\n"),
+        number => format!("{index} fault {number}\n"),
+    }
+}
+
+/// "`chain K end`, `chain K broken` or `chain K again R`, K records met and R a
+/// record index."
+fn chain_line(chain: &Chain) -> String {
+    let met = chain.met.len();
+    match chain.ending {
+        Ending::End => format!("chain {met} end\n"),
+        Ending::Broken => format!("chain {met} broken\n"),
+        Ending::Again(record) => format!("chain {met} again {record}\n"),
+    }
+}

@@ -1,0 +1,154 @@
+//! The sheet: 48 bytes of tagged fields, and the limits on their numbers.
+
+use crate::areas::RECORD_SIZE;
+use crate::Refusal;
+
+/// "The sheet is exactly 48 bytes."
+pub const SHEET_LENGTH: usize = 48;
+
+/// "Flags are 0x020f."
+pub const FLAGS: u32 = 0x020f;
+
+/// Where the body of tag 7, the chain head, stands: all lengths before it are fixed.
+pub const HEAD_AT: usize = 39;
+
+/// "Tags 1 to 8 stand once each, in order": each tag with its length.
+const FIELDS: [(u8, u16); 8] = [
+    (1, 4),
+    (2, 4),
+    (3, 4),
+    (4, 2),
+    (5, 2),
+    (6, 2),
+    (7, 4),
+    (8, 2),
+];
+
+/// The numbers of the eight fields, in the order of their tags.
+#[derive(Clone, Copy)]
+pub struct Sheet {
+    pub cache: u32,
+    pub heap_base: u32,
+    pub record_base: u32,
+    pub size: u32,
+    pub chunk_size: u32,
+    pub count: u32,
+    pub head: u32,
+    pub flags: u32,
+}
+
+impl Sheet {
+    /// Refusal 1, "sheet isn't 48 bytes of the stated tags and lengths", then
+    /// refusal 2, "a sheet number breaks a limit or a rule".
+    pub fn read(bytes: &[u8]) -> Result<Sheet, Refusal> {
+        let sheet = read_fields(bytes).ok_or(Refusal::plain(1))?;
+        if !sheet.obeys_limits() {
+            return Err(Refusal::plain(2));
+        }
+        Ok(sheet)
+    }
+
+    /// The limits of "Sheet and areas". "Cache address and chain head may be any number."
+    pub fn obeys_limits(&self) -> bool {
+        let size = u64::from(self.size);
+        let chunk_size = u64::from(self.chunk_size);
+        let count = u64::from(self.count);
+        let heap_base = u64::from(self.heap_base);
+        let record_base = u64::from(self.record_base);
+
+        let size_is_lawful = size.is_multiple_of(8) && (8..=4096).contains(&size);
+        let chunk_size_is_lawful = chunk_size == size + 16;
+        let count_is_lawful = (1..=512).contains(&count);
+        if !(size_is_lawful && chunk_size_is_lawful && count_is_lawful) {
+            return false;
+        }
+        let heap_length = count * chunk_size;
+        let record_length = count * RECORD_SIZE as u64;
+        heap_length <= 65_536
+            && self.flags == FLAGS
+            && base_is_lawful(heap_base, heap_length)
+            && base_is_lawful(record_base, record_length)
+            && share_no_address(heap_base, heap_length, record_base, record_length)
+    }
+
+    /// "The heap area is n chunks."
+    pub fn heap_length(&self) -> usize {
+        self.count as usize * self.chunk_size as usize
+    }
+
+    /// "The record area is n records of 96 bytes."
+    pub fn record_length(&self) -> usize {
+        self.count as usize * RECORD_SIZE
+    }
+
+    /// Writes the eight fields over 48 bytes.
+    pub fn write(&self, bytes: &mut [u8]) {
+        let numbers = [
+            self.cache,
+            self.heap_base,
+            self.record_base,
+            self.size,
+            self.chunk_size,
+            self.count,
+            self.head,
+            self.flags,
+        ];
+        let mut at = 0;
+        for (number, (tag, length)) in numbers.into_iter().zip(FIELDS) {
+            let body = at + 3;
+            let end = body + usize::from(length);
+            bytes[at] = tag;
+            bytes[at + 1..body].copy_from_slice(&length.to_be_bytes());
+            bytes[body..end].copy_from_slice(&number.to_be_bytes()[4 - usize::from(length)..]);
+            at = end;
+        }
+    }
+}
+
+/// "Tagged fields, a one-byte tag, a two-byte length, the body." None unless
+/// there are 48 bytes with the stated tags and lengths.
+fn read_fields(bytes: &[u8]) -> Option<Sheet> {
+    if bytes.len() != SHEET_LENGTH {
+        return None;
+    }
+    let mut numbers = [0u32; 8];
+    let mut at = 0;
+    for (number, (tag, length)) in numbers.iter_mut().zip(FIELDS) {
+        let body = at + 3;
+        let end = body + usize::from(length);
+        if bytes[at] != tag || bytes[at + 1..body] != length.to_be_bytes() {
+            return None;
+        }
+        for &byte in &bytes[body..end] {
+            *number = *number * 256 + u32::from(byte);
+        }
+        at = end;
+    }
+    let [cache, heap_base, record_base, size, chunk_size, count, head, flags] = numbers;
+    Some(Sheet {
+        cache,
+        heap_base,
+        record_base,
+        size,
+        chunk_size,
+        count,
+        head,
+        flags,
+    })
+}
+
+/// "Both bases are non-zero multiples of 8; base plus area length is at most 2^32."
+fn base_is_lawful(base: u64, length: u64) -> bool {
+    base != 0 && base.is_multiple_of(8) && base + length <= 1 << 32
+}
+
+/// "The two address ranges share no address."
+fn share_no_address(base: u64, length: u64, other_base: u64, other_length: u64) -> bool {
+    base + length <= other_base || other_base + other_length <= base
+}
+
+/// The lengths a sheet gives its heap area and its record area, or refusal 1 or 2.
+pub fn area_lengths(sheet: &[u8]) -> Result<(usize, usize), Refusal> {
+    let sheet = Sheet::read(sheet)?;
+    Ok((sheet.heap_length(), sheet.record_length()))
+}

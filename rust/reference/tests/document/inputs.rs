@@ -1,0 +1,150 @@
+//! Inputs drawn from a fixed sequence: no call panics, and a refused call changes no
+//! byte.
+
+use crate::image::{dump, put, Image};
+use reference::*;
+
+/// A fixed sequence of numbers.
+pub struct Sequence {
+    state: u64,
+}
+
+impl Sequence {
+    pub fn new(seed: u64) -> Sequence {
+        Sequence { state: seed }
+    }
+
+    pub fn word(&mut self) -> u32 {
+        let step = self.state.wrapping_mul(6_364_136_223_846_793_005);
+        self.state = step.wrapping_add(1_442_695_040_888_963_407);
+        (self.state >> 32) as u32
+    }
+
+    pub fn below(&mut self, limit: u32) -> u32 {
+        ((u64::from(self.word()) * u64::from(limit)) >> 32) as u32
+    }
+
+    pub fn byte(&mut self) -> u8 {
+        self.below(256) as u8
+    }
+}
+
+/// Words that mean something in the dump.
+const WORDS: [u32; 16] = [
+    0, 1, 0x139d, 0x1789, 0xfeedface, 0xbbedface, 0xdeadbeef, 0x70a9add8, 0x70a9ae00, 0x70a9ae28,
+    0x70ae31a0, 0x70ae3200, 0x70ae3260, 0x8440c68e, 0xd1befaed, 0xffffffff,
+];
+
+/// The dump with a few words and bytes changed, and now and then an area cut.
+fn some_image(sequence: &mut Sequence) -> Image {
+    let mut image = dump();
+    for _ in 0..sequence.below(5) {
+        let word = WORDS[sequence.below(16) as usize];
+        match sequence.below(12) {
+            0..=3 => put(&mut image.heap, 4 * sequence.below(30) as usize, word),
+            4..=7 => put(&mut image.records, 4 * sequence.below(72) as usize, word),
+            8..=9 => put(&mut image.sheet, 39, word),
+            10 => image.sheet[sequence.below(48) as usize] = sequence.byte(),
+            _ => image.heap[sequence.below(120) as usize] = sequence.byte(),
+        }
+    }
+    match sequence.below(20) {
+        0 => image.sheet.truncate(sequence.below(48) as usize),
+        1 => image.heap.truncate(sequence.below(120) as usize),
+        2 => image.records.truncate(sequence.below(288) as usize),
+        _ => {}
+    }
+    image
+}
+
+/// A word that means something, or any.
+fn some_word(sequence: &mut Sequence) -> u32 {
+    match sequence.below(4) {
+        0 => sequence.word(),
+        1 => sequence.below(30),
+        _ => WORDS[sequence.below(16) as usize],
+    }
+}
+
+fn some_grant(sequence: &mut Sequence) -> Grant {
+    match sequence.below(3) {
+        0 => Grant::Whole,
+        1 => Grant::Sized(20),
+        _ => Grant::Sized(some_word(sequence)),
+    }
+}
+
+#[test]
+fn a_changing_call_refuses_or_changes_but_not_both() {
+    let mut sequence = Sequence::new(11);
+    let mut refusals = 0;
+    for _ in 0..20_000 {
+        let before = some_image(&mut sequence);
+        let mut image = before.clone();
+        let Image {
+            sheet,
+            heap,
+            records,
+        } = &mut image;
+        let grant = some_grant(&mut sequence);
+        let address = some_word(&mut sequence);
+        let answer = match sequence.below(3) {
+            0 => allocate(sheet, heap, records, grant, 1, 2).map(|_| ()),
+            1 => free(sheet, heap, records, address, grant, 1, 2),
+            _ => store(sheet, heap, records, address, sequence.below(20), &[0x77]),
+        };
+        assert_eq!(answer.is_err(), image == before);
+        refusals += usize::from(answer.is_err());
+    }
+    assert!((1_000..19_000).contains(&refusals), "{refusals}");
+}
+
+#[test]
+fn reading_calls_agree_on_refusals_and_faults() {
+    let mut sequence = Sequence::new(12);
+    let mut accepted = 0;
+    for _ in 0..20_000 {
+        let image = some_image(&mut sequence);
+        let (sheet, heap, records) = (&image.sheet, &image.heap, &image.records);
+        let mut rows = [Finding::default(); 512];
+        let mut output = [0; 16_384];
+        let inspected = inspect(sheet, heap, records, &mut rows);
+        let reported = report(sheet, heap, records, &[], &mut output);
+        let walked = chain(sheet, heap, records);
+        assert_eq!(inspected.err(), reported.err());
+        assert_eq!(inspected.err(), walked.err());
+        let Ok(count) = inspected else {
+            continue;
+        };
+        accepted += 1;
+        let faults = rows[..count]
+            .iter()
+            .filter(|row| row.verdict.number() >= 20);
+        let last_line = format!("faults {}\n", faults.count());
+        assert!(output[..reported.unwrap()].ends_with(last_line.as_bytes()));
+    }
+    assert!((10_000..20_000).contains(&accepted), "{accepted}");
+}
+
+#[test]
+fn latest_names_a_row_or_record_there_is() {
+    let mut sequence = Sequence::new(13);
+    let mut rows_found = 0;
+    for _ in 0..20_000 {
+        let image = some_image(&mut sequence);
+        let words: Vec<u32> = (0..8).map(|_| some_word(&mut sequence)).collect();
+        let log = crate::image::words(&words);
+        let index = sequence.below(4);
+        let now = some_word(&mut sequence);
+        match latest(&image.sheet, &image.heap, &image.records, &log, index, now) {
+            Ok(Latest::Row(row)) => {
+                let names_a_record = [0x70ae31a0, 0x70ae3200, 0x70ae3260].contains(&words[4 * row]);
+                assert!(names_a_record || image.sheet != dump().sheet);
+                rows_found += 1;
+            }
+            Ok(Latest::Record(record)) => assert!(record < 3),
+            Err(refusal) => assert!([1, 2, 3, 4, 7, 12].contains(&refusal.number)),
+        }
+    }
+    assert!(rows_found > 100, "{rows_found}");
+}

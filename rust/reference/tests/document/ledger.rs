@@ -1,0 +1,223 @@
+//! Long lists of calls on a fresh heap, against a ledger kept from the calls'
+//! arguments and answers.
+
+use crate::image::Image;
+use crate::inputs::Sequence;
+use reference::*;
+
+const HEAP_BASE: u32 = 0x1000;
+const RECORD_BASE: u32 = 0x2_0000;
+
+/// What is out: "its grant" and "its client bytes".
+#[derive(Clone)]
+struct Out {
+    grant: Grant,
+    client: Vec<u8>,
+}
+
+/// A heap, its ledger and the buffer size and count it was laid out with.
+struct Heap {
+    image: Image,
+    out: Vec<Option<Out>>,
+    size: u32,
+    count: u32,
+}
+
+impl Heap {
+    fn fresh(size: u32, count: u32) -> Heap {
+        let mut image = Image {
+            sheet: vec![0; 48],
+            heap: vec![0; (count * (size + 16)) as usize],
+            records: vec![0; (count * 96) as usize],
+        };
+        lay_out(
+            7,
+            HEAP_BASE,
+            RECORD_BASE,
+            size,
+            count,
+            &mut image.sheet,
+            &mut image.heap,
+            &mut image.records,
+        )
+        .unwrap();
+        let out = vec![None; count as usize];
+        Heap {
+            image,
+            out,
+            size,
+            count,
+        }
+    }
+
+    fn address(&self, index: usize) -> u32 {
+        HEAP_BASE + index as u32 * (self.size + 16)
+    }
+
+    fn allocate(&mut self, grant: Grant) {
+        let Image {
+            sheet,
+            heap,
+            records,
+        } = &mut self.image;
+        let answer = allocate(sheet, heap, records, grant, 1, 2);
+        if self.out.iter().all(Option::is_some) {
+            assert_eq!(
+                answer,
+                Err(Refusal {
+                    number: 5,
+                    detail: 0
+                })
+            );
+            return;
+        }
+        let distance = answer.unwrap() - HEAP_BASE;
+        let index = (distance / (self.size + 16)) as usize;
+        assert_eq!(distance % (self.size + 16), 0);
+        assert!(self.out[index].is_none(), "granted twice");
+        let length = match grant {
+            Grant::Whole => self.size,
+            Grant::Sized(s) => s,
+        };
+        let client = [0xba, 0xdd, 0xca, 0xfe].into_iter().cycle();
+        let client = client.take(length as usize).collect();
+        self.out[index] = Some(Out { grant, client });
+    }
+
+    fn free(&mut self, index: usize, grant: Grant) {
+        let address = self.address(index);
+        let Image {
+            sheet,
+            heap,
+            records,
+        } = &mut self.image;
+        let answer = free(sheet, heap, records, address, grant, 3, 4);
+        match &self.out[index] {
+            None => assert_eq!(
+                answer,
+                Err(Refusal {
+                    number: 8,
+                    detail: 0
+                })
+            ),
+            Some(out) if out.grant != grant => {
+                assert_eq!(
+                    answer,
+                    Err(Refusal {
+                        number: 9,
+                        detail: 0
+                    })
+                )
+            }
+            Some(_) => {
+                assert_eq!(answer, Ok(()));
+                self.out[index] = None;
+            }
+        }
+    }
+
+    fn store(&mut self, index: usize, offset: usize, bytes: &[u8]) {
+        let address = self.address(index);
+        let Image {
+            sheet,
+            heap,
+            records,
+        } = &mut self.image;
+        let answer = store(sheet, heap, records, address, offset as u32, bytes);
+        match &mut self.out[index] {
+            None => assert_eq!(
+                answer,
+                Err(Refusal {
+                    number: 8,
+                    detail: 0
+                })
+            ),
+            Some(out) if offset + bytes.len() > out.client.len() => {
+                assert_eq!(
+                    answer,
+                    Err(Refusal {
+                        number: 10,
+                        detail: 0
+                    })
+                )
+            }
+            Some(out) => {
+                assert_eq!(answer, Ok(()));
+                out.client[offset..offset + bytes.len()].copy_from_slice(bytes);
+            }
+        }
+    }
+
+    /// Every buffer is found as the ledger has it, shows the stored bytes, and is
+    /// met by the chain just when it is not out.
+    fn check(&self) {
+        let Image {
+            sheet,
+            heap,
+            records,
+        } = &self.image;
+        let mut rows = vec![Finding::default(); self.count as usize];
+        inspect(sheet, heap, records, &mut rows).unwrap();
+        let chain = chain(sheet, heap, records).unwrap();
+        assert_eq!(chain.ending, Ending::End);
+        for (index, out) in self.out.iter().enumerate() {
+            let verdict = rows[index].verdict;
+            let found = (verdict.number(), verdict.value());
+            let expected = match out.as_ref().map(|out| out.grant) {
+                None => (0, 0),
+                Some(Grant::Whole) => (1, 0),
+                Some(Grant::Sized(s)) => (2, s),
+            };
+            assert_eq!(found, expected);
+            assert_eq!(chain.met.contains(&index), out.is_none());
+            if let Some(out) = out {
+                let shown = show(sheet, heap, records, self.address(index));
+                assert_eq!(shown, Ok(&out.client[..]));
+            }
+        }
+    }
+}
+
+fn some_grant(sequence: &mut Sequence, size: u32) -> Grant {
+    match sequence.below(4) {
+        0 => Grant::Whole,
+        1 => Grant::Sized(size),
+        _ => Grant::Sized(1 + sequence.below(size)),
+    }
+}
+
+fn run(size: u32, count: u32, seed: u64) {
+    let mut sequence = Sequence::new(seed);
+    let mut heap = Heap::fresh(size, count);
+    heap.check();
+    for _ in 0..300 {
+        let index = sequence.below(count) as usize;
+        match sequence.below(4) {
+            0 => heap.allocate(some_grant(&mut sequence, size)),
+            1 => {
+                let some = some_grant(&mut sequence, size);
+                heap.free(index, some);
+            }
+            2 => {
+                let grant = heap.out[index].as_ref().map(|out| out.grant);
+                heap.free(index, grant.unwrap_or(Grant::Whole));
+            }
+            _ => {
+                let offset = sequence.below(size + 2) as usize;
+                let length = sequence.below(size + 2) as usize;
+                let bytes: Vec<u8> = (0..length).map(|_| sequence.byte()).collect();
+                heap.store(index, offset, &bytes);
+            }
+        }
+        heap.check();
+    }
+}
+
+#[test]
+fn calls_agree_with_the_ledger() {
+    run(8, 1, 1);
+    run(8, 5, 2);
+    run(24, 3, 3);
+    run(120, 9, 4);
+    run(4096, 2, 5);
+}

@@ -1,0 +1,17 @@
+//! The document's cases. Every expected value here was worked out by hand from the
+//! rules document.
+
+mod allocate;
+mod chain;
+mod free;
+mod image;
+mod inputs;
+mod latest;
+mod lay_out;
+mod ledger;
+mod program;
+mod refusals;
+mod report;
+mod sheet;
+mod store_show;
+mod verdicts;

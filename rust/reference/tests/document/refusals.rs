@@ -1,0 +1,63 @@
+//! "Order: 1, 2, 3 always", for every call that reads a sheet.
+
+use crate::image::*;
+use reference::*;
+
+/// The refusal number of each call on an image, each call having a later refusal too;
+/// every byte is as before.
+fn numbers(image: &Image) -> [u8; 8] {
+    let mut changed = image.clone();
+    let Image {
+        sheet,
+        heap,
+        records,
+    } = &mut changed;
+    let answers = [
+        chain(sheet, heap, records).map(|_| ()),
+        inspect(sheet, heap, records, &mut []).map(|_| ()),
+        latest(sheet, heap, records, &[0], u32::MAX, 0).map(|_| ()),
+        report(sheet, heap, records, &[0], &mut []).map(|_| ()),
+        allocate(sheet, heap, records, Grant::Sized(0), 1, 1).map(|_| ()),
+        free(sheet, heap, records, 1, Grant::Whole, 1, 1),
+        store(sheet, heap, records, 1, 0, &[1]),
+        show(sheet, heap, records, 1).map(|_| ()),
+    ];
+    assert_eq!(changed, *image);
+    answers.map(|answer| {
+        let refusal = answer.unwrap_err();
+        assert_eq!(refusal.detail, 0);
+        refusal.number
+    })
+}
+
+#[test]
+fn refusal_1_comes_first() {
+    let mut image = dump();
+    image.sheet[0] = 9;
+    put(&mut image.sheet, 10, 0);
+    image.heap.clear();
+    assert_eq!(numbers(&image), [1; 8]);
+}
+
+#[test]
+fn refusal_2_comes_before_3() {
+    let mut image = dump();
+    put(&mut image.sheet, 10, 0);
+    image.heap.clear();
+    assert_eq!(numbers(&image), [2; 8]);
+}
+
+#[test]
+fn refusal_3_comes_before_the_rest() {
+    for change in [-1, 1] {
+        let mut image = dump();
+        image.heap.resize(120usize.wrapping_add_signed(change), 0);
+        assert_eq!(numbers(&image), [3; 8]);
+
+        let mut image = dump();
+        image
+            .records
+            .resize(288usize.wrapping_add_signed(change), 0);
+        assert_eq!(numbers(&image), [3; 8]);
+    }
+}

@@ -1,0 +1,289 @@
+//! Verdicts 0 to 28 and the checks P1 to P10.
+
+use crate::image::*;
+use reference::{inspect, Finding, Verdict};
+
+/// The findings on the three buffers of an image.
+fn findings(image: &Image) -> [Finding; 3] {
+    let mut rows = [Finding::default(); 3];
+    let answer = inspect(&image.sheet, &image.heap, &image.records, &mut rows);
+    assert_eq!(answer, Ok(3));
+    rows
+}
+
+/// The number and value of each verdict, with the index of each finding tested.
+fn verdicts(image: &Image) -> [(u32, u32); 3] {
+    let rows = findings(image);
+    assert_eq!(rows.map(|row| row.index), [0, 1, 2]);
+    rows.map(|row| (row.verdict.number(), row.verdict.value()))
+}
+
+/// The dump with one word of its heap changed.
+fn dump_with_heap_word(at: usize, word: u32) -> Image {
+    let mut image = dump();
+    put(&mut image.heap, at, word);
+    image
+}
+
+/// The verdict on the dump's buffer 1, of the allocated pattern, with these redzone
+/// words.
+fn allocated_with(r0: u32, r1: u32) -> (u32, u32) {
+    let mut image = dump();
+    put(&mut image.heap, CHUNK[1] + R0, r0);
+    put(&mut image.heap, CHUNK[1] + R1, r1);
+    verdicts(&image)[1]
+}
+
+#[test]
+fn dump_has_free_allocated_20_free() {
+    assert_eq!(verdicts(&dump()), [(0, 0), (2, 20), (0, 0)]);
+}
+
+#[test]
+fn p1_free_pattern() {
+    let image = dump();
+    assert_eq!(
+        image.heap[CHUNK[0] + T0..][..8],
+        words(&[0x70ae3260, 0x8440c68e])
+    );
+    assert_eq!(verdicts(&image)[0], (0, 0));
+}
+
+#[test]
+fn p2_allocated_pattern() {
+    let image = dump();
+    assert_eq!(
+        image.heap[CHUNK[1] + T0..][..8],
+        words(&[0x70ae3200, 0xd1befaed])
+    );
+    assert_eq!(verdicts(&image)[1], (2, 20));
+}
+
+#[test]
+fn p3_neither_pattern() {
+    let image = dump_with_heap_word(CHUNK[0] + T1, 0x8440c68f);
+    assert_eq!(verdicts(&image), [(21, 0), (2, 20), (0, 0)]);
+}
+
+#[test]
+fn p4_to_p9_redzone_words_of_the_allocated_pattern() {
+    assert_eq!(allocated_with(0xfeedface, 0x139d), (2, 20), "P4");
+    assert_eq!(allocated_with(0xfeedface, 0x139e), (27, 0), "P5");
+    assert_eq!(allocated_with(0xfeedface, 1), (27, 0), "P6");
+    assert_eq!(allocated_with(0xbbedface, 0x1789), (2, 24), "P7");
+    assert_eq!(allocated_with(0xfeedface, 0x1884), (27, 0), "P8");
+    assert_eq!(allocated_with(0x00edface, 0xfeedface), (28, 24), "P9");
+}
+
+#[test]
+fn p10_byte_9_of_a_free_buffer() {
+    let mut image = dump();
+    image.heap[CHUNK[0] + 9] = 0;
+    assert_eq!(verdicts(&image), [(25, 9), (2, 20), (0, 0)]);
+}
+
+#[test]
+fn verdict_1_whole() {
+    assert_eq!(allocated_with(0xfeedface, 0xfeedface), (1, 0));
+}
+
+#[test]
+fn verdict_2_smallest_size() {
+    // 251 * 1 + 1 = 252 = 0xfc.
+    let mut image = dump_with_heap_word(CHUNK[1] + R1, 0xfc);
+    image.heap[CHUNK[1] + 1] = 0xbb;
+    assert_eq!(verdicts(&image)[1], (2, 1));
+}
+
+#[test]
+fn verdict_20_no_record_names_the_buffer() {
+    for address in [0, BUFFER_2 + 4, BUFFER_2 + 40, BUFFER_0 - 40] {
+        let mut image = dump();
+        put(&mut image.records, RECORD[0] + ADDRESS, address);
+        assert_eq!(verdicts(&image), [(0, 0), (2, 20), (20, 0)]);
+    }
+}
+
+#[test]
+fn verdict_20_two_records_name_the_buffer() {
+    let mut image = dump();
+    put(&mut image.records, RECORD[0] + ADDRESS, BUFFER_1);
+    assert_eq!(verdicts(&image), [(0, 0), (20, 0), (20, 0)]);
+}
+
+#[test]
+fn verdict_20_three_records_name_the_buffer() {
+    let mut image = dump();
+    put(&mut image.records, RECORD[0] + ADDRESS, BUFFER_0);
+    put(&mut image.records, RECORD[1] + ADDRESS, BUFFER_0);
+    assert_eq!(verdicts(&image), [(20, 0), (20, 0), (20, 0)]);
+}
+
+#[test]
+fn verdict_21_sound_pattern_on_another_record() {
+    // 0x70ae3200 xor 0xf4eef4ee = 0x8440c6ee.
+    let mut image = dump();
+    put(&mut image.heap, CHUNK[0] + T0, RECORD_1);
+    put(&mut image.heap, CHUNK[0] + T1, 0x8440c6ee);
+    assert_eq!(verdicts(&image), [(21, 0), (2, 20), (0, 0)]);
+}
+
+#[test]
+fn verdict_22_free_pattern() {
+    let mut image = dump();
+    put(&mut image.records, RECORD[0] + NEXT, RECORD_2);
+    assert_eq!(verdicts(&image), [(22, 0), (2, 20), (0, 0)]);
+}
+
+#[test]
+fn verdict_22_comes_before_24_and_25() {
+    let mut image = dump_with_head(RECORD_1);
+    put(&mut image.records, RECORD[1] + NEXT, RECORD_1);
+    assert_eq!(verdicts(&image), [(23, 0), (22, 0), (23, 0)]);
+
+    let mut image = dump();
+    put(&mut image.records, RECORD[0] + NEXT, RECORD_2);
+    image.heap[CHUNK[0]] = 0;
+    assert_eq!(verdicts(&image)[0], (22, 0));
+}
+
+#[test]
+fn verdict_21_comes_before_22() {
+    let mut image = dump_with_heap_word(CHUNK[0] + T1, 0x8440c68f);
+    put(&mut image.records, RECORD[0] + NEXT, RECORD_2);
+    assert_eq!(verdicts(&image)[0], (21, 0));
+}
+
+#[test]
+fn verdict_20_comes_before_21_and_22() {
+    let mut image = dump_with_heap_word(CHUNK[0] + T1, 0);
+    put(&mut image.records, RECORD[2] + ADDRESS, 0);
+    put(&mut image.records, RECORD[0] + NEXT, RECORD_2);
+    assert_eq!(verdicts(&image)[0], (20, 0));
+}
+
+#[test]
+fn verdict_23_free_pattern_not_met() {
+    let mut image = dump_with_head(RECORD_0);
+    assert_eq!(verdicts(&image), [(23, 0), (2, 20), (0, 0)]);
+    image.heap[CHUNK[0]] = 0;
+    assert_eq!(verdicts(&image)[0], (23, 0), "before 25");
+}
+
+#[test]
+fn verdict_24_allocated_pattern_met() {
+    let mut image = dump_with_head(RECORD_1);
+    assert_eq!(verdicts(&image), [(23, 0), (24, 0), (0, 0)]);
+    put(&mut image.heap, CHUNK[1] + R1, 0);
+    assert_eq!(verdicts(&image)[1], (24, 0), "before 27");
+}
+
+#[test]
+fn verdict_25_first_differing_byte_of_the_fill() {
+    for offset in [0, 23] {
+        let mut image = dump();
+        image.heap[CHUNK[2] + offset] ^= 1;
+        image.heap[CHUNK[2] + 23] ^= 2;
+        image.heap[CHUNK[2] + R0] = 0;
+        assert_eq!(verdicts(&image)[2], (25, offset as u32), "before 26");
+    }
+}
+
+#[test]
+fn verdict_26_first_differing_byte_of_the_redzone() {
+    for offset in [24, 27, 28, 29, 31] {
+        let mut image = dump();
+        image.heap[CHUNK[2] + offset] ^= 1;
+        assert_eq!(verdicts(&image)[2], (26, offset as u32));
+        image.heap[CHUNK[2] + 31] ^= 2;
+        assert_eq!(verdicts(&image)[2], (26, offset as u32));
+    }
+}
+
+#[test]
+fn verdict_26_free_pattern_with_a_size_code() {
+    let image = dump_with_heap_word(CHUNK[0] + R1, 0x139d);
+    assert_eq!(verdicts(&image)[0], (26, 28));
+}
+
+#[test]
+fn verdict_27_codes_of_no_size() {
+    // 251 = 0xfb has remainder 0 and 253 = 0xfd has 2; 0xffffff86 = 251 * 17111423 + 1
+    // has remainder 1, but no buffer is that large.
+    for r1 in [0, 0xfb, 0xfd, 0xffff_ff86, 0xfeed_facf] {
+        assert_eq!(allocated_with(0xfeedface, r1), (27, 0));
+    }
+}
+
+#[test]
+fn verdict_27_comes_before_28() {
+    assert_eq!(allocated_with(0, 0x139e), (27, 0));
+}
+
+#[test]
+fn verdict_28_guard_byte() {
+    let mut image = dump();
+    image.heap[CHUNK[1] + 20] = 0xba;
+    image.heap[CHUNK[1] + R0] = 0;
+    assert_eq!(verdicts(&image), [(0, 0), (28, 20), (0, 0)]);
+}
+
+#[test]
+fn verdict_28_redzone_after_a_sound_guard() {
+    assert_eq!(allocated_with(0xfeecface, 0x139d), (28, 25));
+    assert_eq!(allocated_with(0xbbedface, 0x139d), (28, 24));
+    assert_eq!(allocated_with(0xfeedfacf, 0x139d), (28, 27));
+}
+
+#[test]
+fn verdict_28_full_size_grant() {
+    assert_eq!(allocated_with(0xfeedface, 0x1789), (28, 24));
+    assert_eq!(allocated_with(0xbbedfbcf, 0x1789), (28, 26));
+}
+
+#[test]
+fn verdict_28_whole_grant() {
+    assert_eq!(allocated_with(0xbbedface, 0xfeedface), (28, 24));
+    assert_eq!(allocated_with(0xfeedfa00, 0xfeedface), (28, 27));
+}
+
+#[test]
+fn bytes_between_guard_and_redzone_are_not_judged() {
+    let mut image = dump();
+    image.heap[CHUNK[1] + 21..CHUNK[1] + 24].fill(0);
+    assert_eq!(verdicts(&image)[1], (2, 20));
+}
+
+#[test]
+fn client_that_stores_the_free_fill_is_still_allocated() {
+    let mut image = dump();
+    image.heap[CHUNK[1]..CHUNK[1] + 20].copy_from_slice(&words(&[0xdeadbeef; 5]));
+    assert_eq!(verdicts(&image)[1], (2, 20));
+}
+
+#[test]
+fn rows_past_n_stay() {
+    let image = dump();
+    let kept = Finding {
+        index: 77,
+        verdict: Verdict::BadSizeCode,
+    };
+    let mut rows = [kept; 5];
+    let answer = inspect(&image.sheet, &image.heap, &image.records, &mut rows);
+    assert_eq!(answer, Ok(3));
+    assert_eq!(rows[..3], findings(&image));
+    assert_eq!(rows[3..], [kept; 2]);
+}
+
+#[test]
+fn refusal_11_rows_shorter_than_n() {
+    let image = dump();
+    let kept = Finding {
+        index: 77,
+        verdict: Verdict::BadSizeCode,
+    };
+    let mut rows = [kept; 2];
+    let answer = inspect(&image.sheet, &image.heap, &image.records, &mut rows);
+    assert_eq!(answer, refused(11));
+    assert_eq!(rows, [kept; 2]);
+}
