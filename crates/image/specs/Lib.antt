@@ -1,4 +1,6 @@
 pub mod Refusal
 pub mod Place
 pub mod Record
+pub mod Sheet
 pub mod Chain
+pub mod Pairing

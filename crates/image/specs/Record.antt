@@ -24,3 +24,7 @@ threadAt = 24
 -- the word at an offset of record j
 unfoldable pub recordWord : List ℕ → ℕ → ℕ → ℕ
 recordWord records j offset = numberAt 4 records (j * recordSize + offset)
+
+-- the address word of record j: the buffer that it names
+abbrev pub addressWord : List ℕ → ℕ → ℕ
+addressWord records j = recordWord records j bufferAt

@@ -8,6 +8,9 @@
 // Why a call is refused.
 pub mod refusal;
 
+// The sheet, and the opening of an image.
+pub mod sheet;
+
 // Which place of an area an address is.
 pub mod place;
 
@@ -16,3 +19,6 @@ pub mod record;
 
 // The chain of free records.
 pub mod chain;
+
+// Each buffer's own record.
+pub mod pairing;
