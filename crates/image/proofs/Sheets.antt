@@ -9,7 +9,10 @@ use native.Mathlib.Nat.{mul-le-mul}
 use native.Mathlib.Omega.{arith}
 use borrow.Author.Tests.{eqb-true, eqb-false, leb-true, not-true}
 use lib.Dec.{eqb, leb}
+use Rattle.words.proofs.Laws.{below}
+use Rattle.tags.specs.Chunk.{ChunkLength}
 use Rattle.tags.proofs.Laws.{and-true}
+use Rattle.image.specs.Record.{recordSize}
 use Rattle.image.specs.Sheet.{fields, fieldsFrom, shaped, sizesLawful, basesLawful, lawful, Lawful, heapLength, recordsLength}
 use Rattle.image.specs.declared.sheet.Sheet.{Sheet}
 
@@ -117,3 +120,30 @@ eight ea eb ec ed ee ef eg eh = rw (ea, eb, ec, ed, ee, ef, eg, eh) (simp (and-a
 pub shaped-long : (s : List ℕ) → shaped s ≡ true → length s ≡ 48
 unfolding shaped
 shaped-long s e = eqb-true (length s) 48 (and-true (eqb (length s) 48) (fieldsFrom fields 0 s) e .0)
+
+-- ---- places in the areas of a lawful sheet
+
+module _ (g : Sheet) (law : Lawful g) (i : ℕ) (h : i < g .count) where
+  pub chunk-inside : i * g .chunk + g .chunk ≤ heapLength g
+  chunk-inside = below (g .chunk) h
+
+  pub record-inside : i * recordSize + recordSize ≤ recordsLength g
+  record-inside = below recordSize h
+
+  pub chunk-small : i * g .chunk + g .chunk ≤ 65536
+  chunk-small = let k = chunk-inside in let a = law .area in omega arith
+
+  pub record-small : i * recordSize + recordSize ≤ 49152
+  record-small = let f = law .few in omega arith
+
+  -- a record's address is a word
+  pub record-word : g .records + i * recordSize + recordSize ≤ 4294967296
+  record-word = let k = record-inside in let f = law .recordsFit in omega arith
+
+  -- and so is a buffer's
+  pub buffer-word : g .heap + i * g .chunk + g .chunk ≤ 4294967296
+  buffer-word = let k = chunk-inside in let f = law .heapFits in omega arith
+
+-- the length of a chunk
+pub chunk-length : (g : Sheet) → Lawful g → ChunkLength (g .chunk)
+chunk-length g law = let e = law .chunks in let l = law .least in let m = law .most in let s = law .eights in record { least = omega arith; most = omega arith; eights = omega arith }

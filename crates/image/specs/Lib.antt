@@ -4,3 +4,4 @@ pub mod Record
 pub mod Sheet
 pub mod Chain
 pub mod Pairing
+pub mod Judge

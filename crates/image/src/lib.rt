@@ -22,3 +22,6 @@ pub mod chain;
 
 // Each buffer's own record.
 pub mod pairing;
+
+// The verdict on a buffer.
+pub mod judge;
