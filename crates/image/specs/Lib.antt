@@ -2,3 +2,4 @@ pub mod Refusal
 pub mod Place
 pub mod Record
 pub mod Chain
+pub mod Walk
