@@ -1,0 +1,77 @@
+-- What a walk gives from some word of the chain on, where some records are met already: one number and the marks. Assumes nothing.
+use mathlib.Core.Path.{_≡_}
+use mathlib.Core.List.{List, [], _∷_, _++_}
+use Prim.Native.Nat.{ℕ, zero, suc, _+_, _/_, _%_, _<_}
+use lib.Dec.{eqb}
+use lib.ListN.{length}
+use Rattle.words.specs.Run.{pick}
+use Rattle.image.specs.Place.{placeAddress, placeOf}
+use Rattle.image.specs.Record.{recordSize, recordWord, nextAt}
+use Rattle.image.specs.Chain.{occ, Chain, chainFrom}
+use Rattle.image.specs.declared.place.Place.{Place}
+use Rattle.image.specs.declared.place.Place.the-variants.{At, Nowhere}
+use Rattle.image.specs.declared.chain.Ending.{Ending}
+use Rattle.image.specs.declared.chain.Ending.the-variants.{End, Broken, Again}
+
+-- how many marks there are, one for each record that there can be. A name, so that nothing counts up to it
+unfoldable pub slots : ℕ
+slots = 512
+
+-- the list of f 0 up to f (n - 1)
+unfoldable pub table : ℕ → (ℕ → ℕ) → List ℕ
+table zero f = []
+table (suc n) f = f 0 ∷ table n (λ i. f (suc i))
+
+-- the mark of what is met k times
+abbrev pub mark : ℕ → ℕ
+mark zero = 0
+mark (suc k) = 1
+
+-- a mark for each of n records: 1 for one that is in the list, else 0
+abbrev pub marksOf : ℕ → List ℕ → List ℕ
+marksOf n l = table n (λ i. mark (occ i l))
+
+-- how many of the marks are 0
+abbrev pub unmarked : ℕ → ℕ → ℕ
+unmarked zero k = suc k
+unmarked (suc m) k = k
+
+unfoldable pub unmet : List ℕ → ℕ
+unmet [] = 0
+unmet (m ∷ l) = unmarked m (unmet l)
+
+-- the next word of record j
+abbrev pub nextWord : List ℕ → ℕ → ℕ
+nextWord records j = recordWord records j nextAt
+
+-- the chain from the word w, where the records `seen` are met already
+unfoldable pub chainAfter : List ℕ → ℕ → ℕ → List ℕ → ℕ → Chain
+chainAfter records base n seen w = chainFrom (nextWord records) (placeOf base recordSize n) (suc n) seen w
+
+-- how a chain ends that stops at the word w
+abbrev pub ofPlace : Place → Ending
+ofPlace (At i) = Again i
+ofPlace Nowhere = Broken
+
+unfoldable pub endingAt : ℕ → ℕ → ℕ → Ending
+endingAt base n w = pick (eqb w 0) End (ofPlace (placeOf base recordSize n w))
+
+-- how many words there are: a number of records is packed above a word
+abbrev pub words : ℕ
+words = 4294967296
+
+-- the number r and the marks at exit are those of the chain c, before which the records `seen` were met, `before` of them
+pub record Gives (c : Chain) (seen : List ℕ) (base n before r : ℕ) (exit : List ℕ) : Type 0 where
+  pub met : r / words ≡ before + length (c .met)
+  pub ending : endingAt base n (r % words) ≡ c .ending
+  pub marked : exit ≡ marksOf slots (c .met ++ seen)
+
+-- whatever records `seen` the marks at entry stand for, the walk is the chain from `word` with those met already
+abbrev pub WalkOf : List ℕ → ℕ → ℕ → ℕ → List ℕ → ℕ → ℕ → List ℕ → Type 0
+WalkOf records base n word entry before r exit =
+    (seen : List ℕ) → entry ≡ marksOf slots seen → Gives (chainAfter records base n seen word) seen base n before r exit
+
+-- the word w is the address of the first of the records l, the next word of each that of the one after it, and the last next word is 0
+unfoldable pub Linked : (ℕ → ℕ) → ℕ → ℕ → ℕ → List ℕ → Type 0
+Linked next base n w [] = w ≡ 0
+Linked next base n w (i ∷ l) = (i < n) × ((w ≡ placeAddress base recordSize i) × Linked next base n (next i) l)
