@@ -98,8 +98,3 @@ verdictOf g heap records i =
 -- record j has a mark
 abbrev pub marked : List ℕ → ℕ → Bool
 marked marks j = not (eqb (getD marks j 0) 0)
-
--- an own record is one of n
-abbrev pub OwnIf : ℕ → Own → Type 0
-OwnIf n (One j) = j < n
-OwnIf n NotOne = Unit {0}

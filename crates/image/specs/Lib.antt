@@ -6,3 +6,4 @@ pub mod Chain
 pub mod Walk
 pub mod Pairing
 pub mod Judge
+pub mod Inspect

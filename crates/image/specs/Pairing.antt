@@ -40,3 +40,12 @@ noted m j = pick (eqb m 0) (j + 1) 65535
 -- the marks say the own record of each of n buffers of `chunk` bytes from `base` on
 abbrev pub Paired : List ℕ → ℕ → ℕ → ℕ → List ℕ → Type 0
 Paired records base chunk n marks = (i : ℕ) → i < n → ofMark (getD marks i 0) ≡ ownOf records n (placeAddress base chunk i)
+
+-- an own record is one of n
+abbrev pub OwnIf : ℕ → Own → Type 0
+OwnIf n (One j) = j < n
+OwnIf n NotOne = Unit {0}
+
+-- each mark says an own record of n, if any
+abbrev pub PairedIn : ℕ → List ℕ → Type 0
+PairedIn n marks = (i : ℕ) → i < n → OwnIf n (ofMark (getD marks i 0))

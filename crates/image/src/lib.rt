@@ -25,3 +25,6 @@ pub mod pairing;
 
 // The verdict on a buffer.
 pub mod judge;
+
+// The findings of all buffers.
+pub mod inspect;

@@ -4,7 +4,8 @@ use Prim.Native.Nat.{_-_, ℕ, _+_, _*_, _≤_, _<_}
 use native.Mathlib.Omega.{arith}
 use borrow.Author.Needs.{needs}
 use lib.ListN.{take, drop}
-use Rattle.image.specs.Judge.{ownedVerdict, marked, recordAddress, OwnIf, judged}
+use Rattle.image.specs.Pairing.{OwnIf}
+use Rattle.image.specs.Judge.{ownedVerdict, marked, recordAddress, judged}
 use Rattle.words.specs.Word.{part}
 use Rattle.tags.specs.Chunk.{ChunkLength}
 use Rattle.image.specs.Sheet.{heapLength}

@@ -1,0 +1,95 @@
+-- The laws of findings: rows that are written one after the other, and verdicts that depend on what the marks say alone. Assumes nothing.
+use mathlib.Core.Path.{_≡_, refl, sym, ap, _∙_}
+use mathlib.Core.Bool.{Bool, true, false, not}
+use mathlib.Core.List.{List, [], _∷_, _++_}
+use Prim.Native.Nat.{ℕ, zero, suc, _+_, _*_, _≤_, _<_}
+use native.Mathlib.Nat.{suc-mul, le-step}
+use native.Mathlib.Numerals.{add-one}
+use native.Mathlib.Omega.{arith}
+use borrow.Author.Tests.{eq-eqb, ne-eqb}
+use lib.Dec.{eqb}
+use lib.ListN.{length, getD, set, length-append}
+use lib.Seq.{sets}
+use Rattle.words.proofs.Laws.{sets-then}
+use Rattle.tags.specs.declared.verdict.Verdict.{Verdict}
+use Rattle.image.specs.Place.{placeAddress}
+use Rattle.image.specs.Walk.{marksOf, mark}
+use Rattle.image.specs.Chain.{Chain, occ}
+use Rattle.image.specs.Pairing.{ownOf, ofMark, OwnIf, Paired, PairedIn}
+use Rattle.image.specs.Judge.{ownedVerdict, againAt, byOwn, chunkAt, recordAddress, bufferAddress, judged, marked, metBy, imageChain, verdictOf}
+use Rattle.image.specs.Inspect.{rowOf, rowsOf, findingsOf, judgedBy}
+use Rattle.image.specs.declared.sheet.Sheet.{Sheet}
+use Rattle.image.specs.declared.chain.Ending.{Ending}
+use Rattle.image.specs.declared.pairing.Own.{Own}
+use Rattle.image.specs.declared.pairing.Own.the-variants.{One, NotOne}
+use Rattle.image.proofs.Chains as chains
+use Rattle.image.proofs.Pairs.{own-below}
+
+-- ---- rows
+
+pub three-stores : (l : List ℕ) (at a b c : ℕ) → set (set (set l at a) (at + 1) b) (at + 2) c ≡ sets l at (a ∷ b ∷ c ∷ [])
+three-stores l at a b c =
+    let e : at + 1 ≡ suc at = omega arith in
+    let f : at + 2 ≡ suc (suc at) = omega arith in
+    rw (e, f)
+
+pub length-rows : (v : ℕ → Verdict) (n : ℕ) → length (rowsOf v n) ≡ n * 3
+unfolding rowsOf
+length-rows v zero = refl
+length-rows v (suc n) = simp (length-append, length-rows v n) (omega (arith, suc-mul n 3))
+
+-- no rows yet, and one row more
+pub rows-none : (l : List ℕ) (v : ℕ → Verdict) → l ≡ sets l 0 (rowsOf v 0)
+unfolding rowsOf
+rows-none l v = refl
+
+pub rows-more : (l s t : List ℕ) (v : ℕ → Verdict) (i : ℕ) → s ≡ sets l 0 (rowsOf v i) → t ≡ sets s (i * 3) (rowOf i (v i)) → t ≡ sets l 0 (rowsOf v (i + 1))
+unfolding rowsOf
+rows-more l s t v i es et =
+    rw (et, es, add-one) (sets-then l 0 (i * 3) (i * 3) (rowsOf v i) (rowOf i (v i)) (length-rows v i) (omega arith))
+
+-- the same verdicts have the same rows
+pub rows-same : (v w : ℕ → Verdict) (n : ℕ) → ((i : ℕ) → i < n → v i ≡ w i) → rowsOf v n ≡ rowsOf w n
+unfolding rowsOf
+rows-same v w zero h = refl
+rows-same v w (suc n) h = rw (rows-same v w n (λ i l. h i (le-step l)), h n (omega arith))
+
+-- ---- verdicts by the marks
+
+-- a verdict looks at the chain only for the own record
+judged-same : (heap : List ℕ) (g : Sheet) (i n : ℕ) (own : Own) (f h : ℕ → Bool) (e : Ending) → OwnIf n own → ((j : ℕ) → j < n → f j ≡ h j)
+    → judged heap g i own f e ≡ judged heap g i own h e
+unfolding judged
+judged-same heap g i n (One j) f h e l same = rw (same j l)
+judged-same heap g i n NotOne f h e l same = refl
+
+-- a mark is there just where the record is met
+mark-met : (k : ℕ) → not (eqb (mark k) 0) ≡ not (eqb k 0)
+mark-met zero = refl
+mark-met (suc k) = rw (ne-eqb (suc k) 0 (λ e. omega arith))
+
+marked-met : (n : ℕ) (c : Chain) (marks : List ℕ) (j : ℕ) → marks ≡ marksOf n (c .met) → j < n → marked marks j ≡ metBy c j
+marked-met n c marks j e h =
+    ap (λ (m : List ℕ). not (eqb (getD m j 0) 0)) e ∙ ap (λ (x : ℕ). not (eqb x 0)) (chains.marked n (c .met) j h) ∙ mark-met (occ j (c .met))
+
+own-if : (records : List ℕ) (n a : ℕ) (o : Own) → ownOf records n a ≡ o → OwnIf n o
+own-if records n a (One j) e = own-below records n a j e
+own-if records n a NotOne e = tt
+
+-- marks that say each own record say one of the n
+pub paired-in : (records : List ℕ) (base chunk n : ℕ) (pairs : List ℕ) → Paired records base chunk n pairs → PairedIn n pairs
+paired-in records base chunk n pairs p i h = own-if records n (placeAddress base chunk i) (ofMark (getD pairs i 0)) (sym (p i h))
+
+-- what is judged by the marks is the verdict
+pub judged-is : (g : Sheet) (heap records pairs marks : List ℕ) (ending : Ending) → g .count ≤ 512 → Paired records (g .heap) (g .chunk) (g .count) pairs
+    → ending ≡ imageChain g records .ending → marks ≡ marksOf 512 (imageChain g records .met)
+    → rowsOf (judgedBy heap g pairs marks ending) (g .count) ≡ findingsOf g heap records
+unfolding findingsOf verdictOf
+judged-is g heap records pairs marks ending few p ends e =
+    rows-same _ _ (g .count)
+    (λ i h.
+    judged-same heap g i (g .count) (ofMark (getD pairs i 0)) (marked marks) (metBy (imageChain g records)) ending
+    (paired-in records (g .heap) (g .chunk) (g .count) pairs p i h)
+    (λ j l. marked-met 512 (imageChain g records) marks j e (omega arith))
+    ∙ ap (λ (o : Own). judged heap g i o (metBy (imageChain g records)) ending) (p i h)
+    ∙ ap (judged heap g i (ownOf records (g .count) (bufferAddress g i)) (metBy (imageChain g records))) ends)
