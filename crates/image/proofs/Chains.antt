@@ -1,6 +1,6 @@
 -- The laws of the chain: the marks that stand for the records met, the rule with no bound on the steps, what a chain meets, and that a linked list is the chain.
 -- Assumes nothing.
-use mathlib.Core.Path.{_≡_, refl, sym, ap, subst, _∙_}
+use mathlib.Core.Path.{_≡_, refl, sym, ap, _∙_}
 use mathlib.Core.Logic.{_≢_, _⊎_, inl, inr, ⊎-elim}
 use mathlib.Core.List.{List, [], _∷_, _++_, append-nil}
 use Prim.Native.Nat.{ℕ, zero, suc, _+_, _-_, _*_, _/_, _%_, _≤_, _<_, _^_}
@@ -12,10 +12,10 @@ use lib.Dec.{eqb}
 use lib.ListN.{length, getD, set, replicate, length-set}
 use lib.Seq.{ext-getD, getD-set-same, getD-set-other}
 use Rattle.words.specs.Run.{pick}
-use Rattle.image.specs.Place.{placeAddress, placeOf}
+use Rattle.image.specs.Place.{placeOf}
 use Rattle.image.specs.Record.{recordSize}
-use Rattle.image.specs.Chain.{occ, Chain, stop, meets, atPlace, chainFrom, chainOf}
-use Rattle.image.specs.Walk.{slots, table, mark, marksOf, unmarked, unmet, nextWord, chainAfter, ofPlace, endingAt, words, Gives, Linked}
+use Rattle.image.specs.Chain.{occ, Chain, stop, meets, chainFrom, chainOf}
+use Rattle.image.specs.Walk.{table, mark, marksOf, unmarked, unmet, nextWord, chainAfter, ofPlace, endingAt, wordValues, Gives, Linked}
 use Rattle.image.specs.declared.place.Place.{Place}
 use Rattle.image.specs.declared.place.Place.the-variants.{At, Nowhere}
 use Rattle.image.specs.declared.chain.Ending.{Ending}
@@ -329,7 +329,7 @@ module _ (records : List ℕ) (base n : ℕ) where
               ends = λ seen w z i e. absurd (let z : _≡_ {A = ℕ} 0 1 = cc in omega arith);
               breaks = λ seen w z e i q. absurd (let z : _≡_ {A = ℕ} 0 1 = cc in omega arith);
               repeats = λ seen w i z e m j q h. let s : i ≡ j = cc in m (ap (λ (k : ℕ). occ k seen) s ∙ omega arith);
-              goes-on = λ seen w i c z e m r j q h. r j q (omega (arith, occ-mid j i [] seen, occ-cons j i seen, occ-cons j i (c .met)));
+              goes-on = λ seen w i c z e m r j q h. r j q (omega (arith, occ-cons j i seen, occ-cons j i (c .met)));
             }) [] head i e (omega (arith, occ-none i)))
 
     pub chain-again-below : (i : ℕ) → chainOf records base n head .ending ≡ Again i → i < n
@@ -378,13 +378,6 @@ linked-same f g base n w (i ∷ l) h r = (
 
 -- ---- what a walk gives
 
-pub slots-is : slots ≡ 512
-unfolding slots
-slots-is = refl
-
-pub slots-none : replicate 512 0 ≡ marksOf slots []
-slots-none = sym (marks-none slots ∙ ap (λ (k : ℕ). replicate k 0) slots-is)
-
 module _ (base n w : ℕ) where
   pub ending-end : w ≡ 0 → endingAt base n w ≡ End
   unfolding endingAt
@@ -395,24 +388,24 @@ module _ (base n w : ℕ) where
   ending-place p z e = simp (ne-eqb w 0 z, e)
 
 -- a walk that stops at once
-pub gives-stop : (c : Chain) (e : Ending) (seen : List ℕ) (base n before w r : ℕ) (exit : List ℕ) → c ≡ stop e → r ≡ before * words + w → w < 2 ^ 32
-    → endingAt base n w ≡ e → exit ≡ marksOf slots seen → Gives c seen base n before r exit
+pub gives-stop : (c : Chain) (e : Ending) (seen : List ℕ) (base n before w r : ℕ) (exit : List ℕ) → c ≡ stop e → r ≡ before * wordValues + w → w < 2 ^ 32
+    → endingAt base n w ≡ e → exit ≡ marksOf 512 seen → Gives c seen base n before r exit
 gives-stop c e seen base n before w r exit q ri l t h =
-    let d : r / words ≡ before + 0 = omega arith in
-    let m : r % words ≡ w = omega arith in
+    let d : r / wordValues ≡ before + 0 = omega arith in
+    let m : r % wordValues ≡ w = omega arith in
     rw q (record { met = d; ending = ap (endingAt base n) m ∙ t; marked = h })
 
 -- a walk that meets record i, and goes on
 pub gives-meets : (c d : Chain) (i : ℕ) (seen : List ℕ) (base n before r : ℕ) (exit : List ℕ) → c ≡ meets i d
     → Gives d (i ∷ seen) base n (before + 1) r exit → Gives c seen base n before r exit
 gives-meets c d i seen base n before r exit q g =
-    rw q (record { met = g .met ∙ omega arith; ending = g .ending; marked = g .marked ∙ marks-mid slots i (d .met) seen })
+    rw q (record { met = g .met ∙ omega arith; ending = g .ending; marked = g .marked ∙ marks-mid 512 i (d .met) seen })
 
 -- a walk of the whole chain
 pub gives-all : (records : List ℕ) (base n head r : ℕ) (exit : List ℕ) → Gives (chainAfter records base n [] head) [] base n 0 r exit →
     let c = chainOf records base n head in
-    (r / words ≡ length (c .met)) × ((endingAt base n (r % words) ≡ c .ending) × (exit ≡ marksOf 512 (c .met)))
+    (r / wordValues ≡ length (c .met)) × ((endingAt base n (r % wordValues) ≡ c .ending) × (exit ≡ marksOf 512 (c .met)))
 gives-all records base n head r exit g =
     let c = chainOf records base n head in
     let h = rw (sym (chain-whole records base n head)) at g in
-    (h .met ∙ zero-add (length (c .met)), (h .ending, h .marked ∙ ap (λ (k : ℕ). marksOf k (c .met ++ [])) slots-is ∙ ap (marksOf 512) (append-nil (c .met))))
+    (h .met ∙ zero-add (length (c .met)), (h .ending, h .marked ∙ ap (marksOf 512) (append-nil (c .met))))

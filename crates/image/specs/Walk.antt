@@ -1,4 +1,4 @@
--- What a walk gives from some word of the chain on, where some records are met already: one number and the marks. Assumes nothing.
+-- The marks that stand for the records met, what a walk from some word of the chain on gives, and lists of records that are linked. Assumes nothing.
 use mathlib.Core.Path.{_≡_}
 use mathlib.Core.List.{List, [], _∷_, _++_}
 use Prim.Native.Nat.{ℕ, zero, suc, _+_, _/_, _%_, _<_}
@@ -12,10 +12,6 @@ use Rattle.image.specs.declared.place.Place.{Place}
 use Rattle.image.specs.declared.place.Place.the-variants.{At, Nowhere}
 use Rattle.image.specs.declared.chain.Ending.{Ending}
 use Rattle.image.specs.declared.chain.Ending.the-variants.{End, Broken, Again}
-
--- how many marks there are, one for each record that there can be. A name, so that nothing counts up to it
-unfoldable pub slots : ℕ
-slots = 512
 
 -- the list of f 0 up to f (n - 1)
 unfoldable pub table : ℕ → (ℕ → ℕ) → List ℕ
@@ -48,28 +44,29 @@ nextWord records j = recordWord records j nextAt
 unfoldable pub chainAfter : List ℕ → ℕ → ℕ → List ℕ → ℕ → Chain
 chainAfter records base n seen w = chainFrom (nextWord records) (placeOf base recordSize n) (suc n) seen w
 
--- how a chain ends that stops at the word w
+-- how a chain ends that stops at the word w, which is not 0: at a record, which is then one already met, or at none
 abbrev pub ofPlace : Place → Ending
 ofPlace (At i) = Again i
 ofPlace Nowhere = Broken
 
+-- how a chain ends that stops at the word w
 unfoldable pub endingAt : ℕ → ℕ → ℕ → Ending
 endingAt base n w = pick (eqb w 0) End (ofPlace (placeOf base recordSize n w))
 
--- how many words there are: a number of records is packed above a word
-abbrev pub words : ℕ
-words = 4294967296
+-- how many values a word has: a walk gives the number of records met times this, and the word at which it stops
+abbrev pub wordValues : ℕ
+wordValues = 4294967296
 
 -- the number r and the marks at exit are those of the chain c, before which the records `seen` were met, `before` of them
 pub record Gives (c : Chain) (seen : List ℕ) (base n before r : ℕ) (exit : List ℕ) : Type 0 where
-  pub met : r / words ≡ before + length (c .met)
-  pub ending : endingAt base n (r % words) ≡ c .ending
-  pub marked : exit ≡ marksOf slots (c .met ++ seen)
+  pub met : r / wordValues ≡ before + length (c .met)
+  pub ending : endingAt base n (r % wordValues) ≡ c .ending
+  pub marked : exit ≡ marksOf 512 (c .met ++ seen)
 
 -- whatever records `seen` the marks at entry stand for, the walk is the chain from `word` with those met already
 abbrev pub WalkOf : List ℕ → ℕ → ℕ → ℕ → List ℕ → ℕ → ℕ → List ℕ → Type 0
 WalkOf records base n word entry before r exit =
-    (seen : List ℕ) → entry ≡ marksOf slots seen → Gives (chainAfter records base n seen word) seen base n before r exit
+    (seen : List ℕ) → entry ≡ marksOf 512 seen → Gives (chainAfter records base n seen word) seen base n before r exit
 
 -- the word w is the address of the first of the records l, the next word of each that of the one after it, and the last next word is 0
 unfoldable pub Linked : (ℕ → ℕ) → ℕ → ℕ → ℕ → List ℕ → Type 0

@@ -4,7 +4,7 @@ ghost use Prim.Native.Nat.{_+_, _*_, _≤_};
 ghost use lib.ListN.{length, replicate};
 ghost use Rattle.image.specs.Record.{recordSize};
 ghost use Rattle.image.specs.Chain.{chainOf};
-ghost use Rattle.image.specs.Walk.{slots, marksOf, unmet, words, WalkOf};
+ghost use Rattle.image.specs.Walk.{marksOf, unmet, wordValues, WalkOf};
 use crate::place;
 use crate::place::Place;
 use crate::record;
@@ -22,25 +22,25 @@ pub struct Walked {
     pub ending: Ending,
 }
 
-// How many words there are.
-const WORDS: u64 = 4294967296;
+// How many values a word has.
+const WORD_VALUES: u64 = 4294967296;
 
 // A number of records met and the word at which the chain stops, as one number.
 fn pack(met: u64, word: u32) -> u64
     requires { ⌜ met ≤ 512 ⌝ }
-    ensures { λ r. ⌜ r ≡ met * words + word ⌝ }
+    ensures { λ r. ⌜ r ≡ met * wordValues + word ⌝ }
 {
-    met * WORDS + (word as u64)
+    met * WORD_VALUES + (word as u64)
 }
 
-// The chain from `word`, where the marks say which records are met already, `met` of them. The walk calls itself from the
-// next word; the number of records not yet met falls. No slice, struct or enum goes into that call or comes out of it, so
+// The chain from `word`, where the marks say which records are met already, `met` of them. "The walk calls itself from the
+// next word; the number of records not yet met falls." No slice, struct or enum goes into that call or comes out of it, so
 // that it is compiled to a loop.
 fn walk(records: &&[u8], base: u32, n: usize, word: u32, marks: &mut [u8; 512], met: u64) -> u64
     requires { ⌜ n * recordSize ≤ length (now (now records)) ⌝ }
-    requires { ⌜ n ≤ slots ⌝ }
-    requires { ⌜ length (now marks) ≡ slots ⌝ }
-    requires { ⌜ met + unmet (now marks) ≤ slots ⌝ }
+    requires { ⌜ n ≤ 512 ⌝ }
+    requires { ⌜ length (now marks) ≡ 512 ⌝ }
+    requires { ⌜ met + unmet (now marks) ≤ 512 ⌝ }
     ensures { λ r. ⌜ WalkOf (now (now (records .entry))) base n word (now (marks .entry)) met r (now (marks .exit)) ⌝ }
 {
     if word == 0 {
@@ -66,7 +66,8 @@ fn walk(records: &&[u8], base: u32, n: usize, word: u32, marks: &mut [u8; 512], 
     }
 }
 
-// The chain from the head. The marks are one byte to a record: 0 at entry, and at exit 1 at each record met.
+// The chain from the head. The marks are one byte to a record: 0 at entry, and at exit 1 at each record met. How the chain
+// ends is told by the word at which it stops: 0, no record's address, or that of a record already met.
 pub fn walk_from(records: &[u8], base: u32, n: usize, head: u32, marks: &mut [u8; 512]) -> Walked
     requires { ⌜ n * recordSize ≤ length (now records) ⌝ }
     requires { ⌜ n ≤ 512 ⌝ }
@@ -76,8 +77,8 @@ pub fn walk_from(records: &[u8], base: u32, n: usize, head: u32, marks: &mut [u8
     ensures marked { λ _. ⌜ now (marks .exit) ≡ marksOf 512 (chainOf (now (records .entry)) base n head .met) ⌝ }
 {
     let r = walk(&records, base, n, head, marks, 0);
-    let met = (r / WORDS) as usize;
-    let word = (r % WORDS) as u32;
+    let met = (r / WORD_VALUES) as usize;
+    let word = (r % WORD_VALUES) as u32;
     if word == 0 {
         return Walked {
             met,

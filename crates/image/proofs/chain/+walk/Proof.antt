@@ -1,31 +1,30 @@
 -- The walk is the chain's rule, step by step: a record not met yet is marked, so one fewer is left, and the rest is the chain from its next word.
 -- Assumes nothing.
-use mathlib.Core.Path.{_≡_, sym, ap, subst, _∙_}
+use mathlib.Core.Path.{_≡_, sym, ap, _∙_}
 use mathlib.Core.List.{List, _∷_}
 use Prim.Native.Nat.{ℕ, suc, _<_}
-use native.Mathlib.Nat.{le-of-eq}
 use native.Mathlib.Omega.{arith}
 use borrow.Author.Needs.{needs}
 use borrow.Fn.Kinds.{In}
 use borrow.Fn.PlainCycle.{Measures, is, falls, and}
 use lib.ListN.{length, set, length-set}
-use denote.Ref.{now}
 use Rattle.image.specs.Place.{placeOf}
 use Rattle.image.specs.Record.{recordSize}
 use Rattle.image.specs.Chain.{meets}
-use Rattle.image.specs.Walk.{slots, unmet, chainAfter}
+use Rattle.image.specs.Walk.{unmet, chainAfter}
 use Rattle.image.specs.declared.place.Place.the-variants.{At, Nowhere}
 use Rattle.image.specs.declared.chain.Ending.the-variants.{End, Broken, Again}
 use Rattle.image.proofs.Places.{place-found}
-use Rattle.image.proofs.Chains.{chain-end, chain-broken, chain-again, chain-meets, is-met, not-met, marks-set, unmet-set, slots-is, ending-end, ending-place, gives-stop, gives-meets}
+use Rattle.image.proofs.Chains.{chain-end, chain-broken, chain-again, chain-meets, is-met, not-met, marks-set, unmet-set, ending-end, ending-place, gives-stop, gives-meets}
+use Rattle.image.proofs.chain.+walk.{statement}
+use Rattle.image.proofs.chain.+walk.Tie.{close}
 use Rattle.image.proofs.chain.walk.Reads as walk
 use Rattle.image.proofs.chain.walk.Kinds as walk-kinds
 use Rattle.image.proofs.chain.+walk.Lts-walk as walk-lts
 use Rattle.image.proofs.chain.pack.Reads as pack-reads
 use Rattle.image.proofs.place.find.Reads as find-reads
 use Rattle.image.proofs.record.read.Reads as read-reads
-use Rattle.image.proofs.chain.+walk.{statement}
-use Rattle.image.proofs.chain.+walk.Tie.{close}
+use denote.Ref.{now}
 
 abbrev μ-walk : Measures 3 walk-kinds.ps ℕ
 μ-walk κs a = unmet (a .1 .1 .1 .1 .0 .now)
@@ -69,14 +68,11 @@ module _ (t : ℕ) (c : At-p t) where
       let a = c .before .before .before .before .args in
       place-found (a .base) recordSize (a .n) (a .word) index is-at .0
 
-  in-slots : index < slots
-  in-slots = let h = inside in let e = c .before .before .before .before .pre .1 .1 .0 in omega arith
-
   in-array : index < 512
-  in-array = let h = in-slots in let e = slots-is in omega arith
+  in-array = let h = inside in omega arith
 
   in-marks : index < length (c .before .before .before .before .args .marks .now)
-  in-marks = let h = in-slots in let e = c .before .before .before .before .pre .1 .1 .1 .0 in omega arith
+  in-marks = let h = inside in omega arith
 
 -- one record fewer is left
 fewer : (t : ℕ) (c : Fresh t) →
@@ -87,7 +83,7 @@ fewer t c =
     unmet-set m (index t (c .before .before .before)) (in-marks t (c .before .before .before)) (c .if2 .left)
 
 walk-pack-requires : (t : ℕ) → walk-lts.Need-pack-requires (callees t) (walk-at t) walk.Post
-walk-pack-requires t c κs = let s = c .before in let p = s .pre .1 .1 .1 .1 in let e = slots-is in omega arith
+walk-pack-requires t c κs = omega arith
 
 walk-returns : (t : ℕ) → walk-lts.Need-returns (callees t) (walk-at t) walk.Post
 walk-returns t c =
@@ -103,7 +99,7 @@ walk-enum-told : (t : ℕ) → walk-lts.Need-enum-told (callees t) (walk-at t) w
 walk-enum-told t c = search needs
 
 walk-pack-requires-2 : (t : ℕ) → walk-lts.Need-pack-requires-2 (callees t) (walk-at t) walk.Post
-walk-pack-requires-2 t c κs = let s = c .before .before .before .before in let p = s .pre .1 .1 .1 .1 in let e = slots-is in omega arith
+walk-pack-requires-2 t c κs = omega arith
 
 walk-enum-known-p : (t : ℕ) → walk-lts.Need-enum-known-p (callees t) (walk-at t) walk.Post
 walk-enum-known-p t c = search needs
@@ -112,7 +108,7 @@ walk-element-copy-out-if2 : (t : ℕ) → walk-lts.Need-element-copy-out-if2 (ca
 walk-element-copy-out-if2 t c = in-array t (c .before)
 
 walk-pack-requires-3 : (t : ℕ) → walk-lts.Need-pack-requires-3 (callees t) (walk-at t) walk.Post
-walk-pack-requires-3 t c κs = let s = c .before .before .before .before .before .before .before in let p = s .pre .1 .1 .1 .1 in let e = slots-is in omega arith
+walk-pack-requires-3 t c κs = omega arith
 
 walk-returns-2 : (t : ℕ) → walk-lts.Need-returns-2 (callees t) (walk-at t) walk.Post
 walk-returns-2 t c =
@@ -122,7 +118,7 @@ walk-returns-2 t c =
     let i = index t p in
     let z = p .before .before .before .if1 .left in λ seen h.
     gives-stop _ (Again i) seen (a .base) (a .n) (a .met) (a .word) _ _
-    (chain-again _ _ _ seen _ i z (is-at t p) (is-met slots seen (a .marks .now) i h (in-slots t p) (c .before .if2 .taken)))
+    (chain-again _ _ _ seen _ i z (is-at t p) (is-met 512 seen (a .marks .now) i h (in-array t p) (c .before .if2 .taken)))
     (c .pack3 .ensures) (s .fits .word .fits)
     (ending-place (a .base) (a .n) (a .word) (At i) z (is-at t p)) h
 
@@ -130,12 +126,10 @@ walk-element-write-marks : (t : ℕ) → walk-lts.Need-element-write-marks (call
 walk-element-write-marks t c = in-array t (c .before .before .before)
 
 walk-read-requires : (t : ℕ) → walk-lts.Need-read-requires (callees t) (walk-at t) walk.Post
-walk-read-requires t c κs =
-    let h = inside t (c .before .before .before .before) in
-    let e = c .before .before .before .before .before .before .before .before .pre .1 .0 in omega arith
+walk-read-requires t c κs = let h = inside t (c .before .before .before .before) in omega arith
 
 walk-add-walk : (t : ℕ) → walk-lts.Need-add-walk (callees t) (walk-at t) walk.Post
-walk-add-walk t c = let h = fewer t (c .before .before .before) in let e = slots-is in let p = c .before .before .before .before .before .before .before .before .before .before .pre .1 .1 .1 .1 in omega arith
+walk-add-walk t c = let h = fewer t (c .before .before .before) in omega arith
 
 walk-walk-requires : (t : ℕ) → walk-lts.Need-walk-requires (callees t) (walk-at t) walk.Post
 walk-walk-requires t c κs =
@@ -143,10 +137,8 @@ walk-walk-requires t c κs =
     let i = index t (f .before .before .before) in
     let s = f .before .before .before .before .before .before .before in
     let m = s .args .marks .now in
-    let h = fewer t f in (
-      subst (λ (j : ℕ). unmet (set m i 1) < j) (s .pre .0) (le-of-eq (sym h)),
-      (s .pre .1 .0, (s .pre .1 .1 .0, (length-set m i 1 ∙ s .pre .1 .1 .1 .0, (let p = s .pre .1 .1 .1 .1 in omega arith)))),
-    )
+    let h = fewer t f in
+    (omega arith, (s .pre .1 .0, (s .pre .1 .1 .0, (length-set m i 1 ∙ s .pre .1 .1 .1 .0, omega arith))))
 
 walk-returns-3 : (t : ℕ) → walk-lts.Need-returns-3 (callees t) (walk-at t) walk.Post
 walk-returns-3 t c =
@@ -168,9 +160,9 @@ walk-returns-4 t c =
     let from = chainAfter (now (a .records .now)) (a .base) (a .n) in
     λ seen h.
     gives-meets _ (from (i ∷ seen) (c .before .before .read .result)) i seen (a .base) (a .n) (a .met) _ _
-    (chain-meets _ _ _ seen (a .word) i (p .before .before .before .if1 .left) (is-at t p) (not-met slots seen m i h (in-slots t p) (f .if2 .left))
+    (chain-meets _ _ _ seen (a .word) i (p .before .before .before .if1 .left) (is-at t p) (not-met 512 seen m i h (in-array t p) (f .if2 .left))
     ∙ ap (λ (w : ℕ). meets i (from (i ∷ seen) w)) (sym (c .before .before .read .ensures)))
-    (c .walk .ensures (i ∷ seen) (ap (λ (l : List ℕ). set l i 1) h ∙ marks-set slots i seen (in-slots t p)))
+    (c .walk .ensures (i ∷ seen) (ap (λ (l : List ℕ). set l i 1) h ∙ marks-set 512 i seen (in-array t p)))
 
 pub +walk-spec : {M : Type 1} → statement M
 +walk-spec = close μ-walk λ t. walk-lts.spec (callees t)

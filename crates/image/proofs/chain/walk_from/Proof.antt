@@ -6,30 +6,29 @@ use native.Mathlib.Omega.{arith}
 use borrow.Author.Needs.{needs}
 use lib.ListN.{length}
 use Rattle.image.specs.Chain.{chainOf}
-use Rattle.image.specs.Walk.{slots, marksOf, endingAt, words}
+use Rattle.image.specs.Walk.{marksOf, endingAt, wordValues}
 use Rattle.image.specs.declared.place.Place.the-variants.{At, Nowhere}
-use Rattle.image.proofs.Chains.{length-marks, unmet-most, slots-is, slots-none, ending-end, ending-place, gives-all}
+use Rattle.image.proofs.Chains.{length-marks, unmet-most, marks-none, ending-end, ending-place, gives-all}
 use Rattle.image.proofs.chain.walk_from.Statement.{statement}
 use Rattle.image.proofs.chain.walk_from.Tie as tie
 
 walk-requires : tie.Need-walk-requires
 walk-requires c κs =
     let s = c .before .before .before in
-    let e = s .pre .1 .1 ∙ slots-none in
-    let l : length (s .args .marks .now) ≡ slots = ap length e ∙ length-marks slots [] in
-    let b = s .pre .1 .0 in
-    (s .pre .0, (omega (arith, slots-is), (l, omega (arith, unmet-most (s .args .marks .now)))))
+    let e = s .pre .1 .1 ∙ sym (marks-none 512) in
+    let l : length (s .args .marks .now) ≡ 512 = ap length e ∙ length-marks 512 [] in
+    (s .pre .0, (s .pre .1 .0, (l, omega (arith, unmet-most (s .args .marks .now)))))
 
 -- what the walk gives
 came : (c : tie.After-walk) →
     let a = c .before .before .before .before .args in
     let d = chainOf (a .t1 .now) (a .base) (a .n) (a .head) in
-    (c .walk .result / words ≡ length (d .met))
-    × ((endingAt (a .base) (a .n) (c .walk .result % words) ≡ d .ending) × (c .walk .last .1 .1 .1 .1 .0 ≡ marksOf 512 (d .met)))
+    (c .walk .result / wordValues ≡ length (d .met))
+    × ((endingAt (a .base) (a .n) (c .walk .result % wordValues) ≡ d .ending) × (c .walk .last .1 .1 .1 .1 .0 ≡ marksOf 512 (d .met)))
 came c =
     let s = c .before .before .before .before in
     let a = s .args in
-    gives-all (a .t1 .now) (a .base) (a .n) (a .head) (c .walk .result) (c .walk .last .1 .1 .1 .1 .0) (c .walk .ensures [] (s .pre .1 .1 ∙ slots-none))
+    gives-all (a .t1 .now) (a .base) (a .n) (a .head) (c .walk .result) (c .walk .last .1 .1 .1 .1 .0) (c .walk .ensures [] (s .pre .1 .1 ∙ sym (marks-none 512)))
 
 cast-word : tie.Need-cast-word
 cast-word c = search needs
