@@ -7,3 +7,4 @@ pub mod Walk
 pub mod Pairing
 pub mod Judge
 pub mod Inspect
+pub mod Latest

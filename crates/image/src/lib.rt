@@ -28,3 +28,6 @@ pub mod judge;
 
 // The findings of all buffers.
 pub mod inspect;
+
+// The latest transaction of a buffer.
+pub mod latest;
