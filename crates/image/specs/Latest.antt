@@ -1,8 +1,9 @@
 -- "Latest transaction, for a buffer index, hands back either the log row or the record, as a part of the area it lies in: the smallest age among rows naming
 -- its record and the record itself. On a tie a row wins over the record and a later row over an earlier." Assumes nothing.
-use mathlib.Core.Bool.{Bool, _&&_}
+use mathlib.Core.Path.{_≡_}
+use mathlib.Core.Bool.{Bool, true, _&&_}
 use mathlib.Core.List.{List, []}
-use Prim.Native.Nat.{ℕ, zero, suc, _+_, _*_, _/_, _≤_}
+use Prim.Native.Nat.{ℕ, zero, suc, _+_, _*_, _/_, _≤_, _<_}
 use lib.Dec.{eqb, leb, ltb}
 use lib.ListN.{length}
 use Rattle.words.specs.Word.{part, numberAt}
@@ -83,9 +84,24 @@ latestPart records log (Row k) = part log (k * rowSize) rowSize
 latestPart records log (Record j) = part records (j * recordSize) recordSize
 latestPart records log (Refused why) = []
 
--- ---- what is known of an answer: the part lies in its area, of r or l bytes
+-- ---- the rule in plain words, which the definitions above meet
+
+-- a row that is chosen names the record, has that age, and is younger than each later row that names it; where no row is, the record has that age, and each
+-- row that names it is older
+abbrev pub ChosenAt : List ℕ → ℕ → ℕ → ℕ → ℕ → Place → ℕ → Type 0
+ChosenAt log a time stamp n (place.At k) age =
+    (k < n) × (rowNames log a k ≡ true) × (age ≡ rowAge log time k) × ((j : ℕ) → k < j → j < n → rowNames log a j ≡ true → age < rowAge log time j)
+ChosenAt log a time stamp n place.Nowhere age = (age ≡ ageOf 32 time stamp) × ((j : ℕ) → j < n → rowNames log a j ≡ true → age < rowAge log time j)
+
+-- "the smallest age among rows naming its record and the record itself", of the first n rows
+pub record Smallest (log : List ℕ) (a time stamp n : ℕ) (b : Best) : Type 0 where
+  pub record-older : b .age ≤ ageOf 32 time stamp
+  pub rows-older : (j : ℕ) → j < n → rowNames log a j ≡ true → b .age ≤ rowAge log time j
+  pub chosen : ChosenAt log a time stamp n (b .row) (b .age)
+
+-- ---- what is known of an answer: the part lies in its area, of r or l bytes, and its number is small
 
 abbrev pub LatestIf : ℕ → ℕ → Transaction → Type 0
-LatestIf r l (Row k) = k * rowSize + rowSize ≤ l
-LatestIf r l (Record j) = j * recordSize + recordSize ≤ r
+LatestIf r l (Row k) = (k * rowSize + rowSize ≤ l) × (k < 1024)
+LatestIf r l (Record j) = (j * recordSize + recordSize ≤ r) × (j < 512)
 LatestIf r l (Refused why) = Unit {0}

@@ -146,3 +146,8 @@ pub record Open (h r : ℕ) (g : Sheet) : Type 0 where
 abbrev pub OpenedIf : ℕ → ℕ → Opened → Type 0
 OpenedIf h r (Image g) = Open h r g
 OpenedIf h r (Refused why) = Unit {0}
+
+-- the same where a log of l bytes is given too
+abbrev pub LoggedIf : ℕ → ℕ → ℕ → Opened → Type 0
+LoggedIf h r l (Image g) = Open h r g × (l ≤ 16384)
+LoggedIf h r l (Refused why) = Unit {0}

@@ -75,6 +75,7 @@ fn latest_row(log: &[u8], n: usize, record_at: u32, stamp: u32, time: u32) -> Be
 fn latest_owned(records: &[u8], log: &[u8], g: Sheet, j: usize, time: u32) -> Transaction
     requires { ⌜ Open (g .count * g .chunk) (length (now records)) g ⌝ }
     requires { ⌜ j < g .count ⌝ }
+    requires { ⌜ length (now log) ≤ 16384 ⌝ }
     ensures { λ r. ⌜ r ≡ ownedLatest g (now (records .entry)) (now (log .entry)) time j ⌝ }
     ensures { λ r. ⌜ LatestIf (length (now (records .entry))) (length (now (log .entry))) r ⌝ }
 {
@@ -106,6 +107,7 @@ fn own_of(records: &[u8], g: Sheet, i: usize) -> Own
 // The latest transaction of the buffer with an index, of an open image.
 fn latest_of(records: &[u8], log: &[u8], g: Sheet, index: u32, time: u32) -> Transaction
     requires { ⌜ Open (g .count * g .chunk) (length (now records)) g ⌝ }
+    requires { ⌜ length (now log) ≤ 16384 ⌝ }
     ensures { λ r. ⌜ r ≡ indexedLatest g (now (records .entry)) (now (log .entry)) index time ⌝ }
     ensures { λ r. ⌜ LatestIf (length (now (records .entry))) (length (now (log .entry))) r ⌝ }
 {

@@ -5,7 +5,7 @@ ghost use Prim.Native.Nat.{_+_, _*_, _≤_};
 ghost use lib.Dec.{eqb};
 ghost use lib.ListN.{length};
 ghost use Rattle.words.specs.Word.{numberAt};
-ghost use Rattle.image.specs.Sheet.{fieldIs, shaped, sheetOf, sizesLawful, basesLawful, lawful, measured, numbered, openedOf, openedWithLog, Lawful, OpenedIf};
+ghost use Rattle.image.specs.Sheet.{fieldIs, shaped, sheetOf, sizesLawful, basesLawful, lawful, measured, numbered, openedOf, openedWithLog, Lawful, OpenedIf, LoggedIf};
 use crate::record;
 use crate::refusal::Refusal;
 use words::word;
@@ -196,7 +196,7 @@ pub fn open(sheet: &[u8], heap_len: usize, records_len: usize) -> Opened
 // The same where a log is given too.
 pub fn open_with_log(sheet: &[u8], heap_len: usize, records_len: usize, log_len: usize) -> Opened
     ensures { λ r. ⌜ r ≡ openedWithLog (now (sheet .entry)) «heap_len» «records_len» «log_len» ⌝ }
-    ensures { λ r. ⌜ OpenedIf «heap_len» «records_len» r ⌝ }
+    ensures { λ r. ⌜ LoggedIf «heap_len» «records_len» «log_len» r ⌝ }
 {
     let opened = open(sheet, heap_len, records_len);
     match opened {

@@ -2,7 +2,7 @@
 use mathlib.Core.Path.{refl, subst}
 use borrow.Author.Needs.{needs}
 use Rattle.image.specs.Latest.{latestOf}
-use Rattle.image.specs.Sheet.{OpenedIf}
+use Rattle.image.specs.Sheet.{LoggedIf}
 use Rattle.image.proofs.latest.find_latest.Statement.{statement}
 use Rattle.image.proofs.latest.find_latest.Tie as tie
 
@@ -16,7 +16,9 @@ enum-known-opened-2 : tie.Need-enum-known-opened-2
 enum-known-opened-2 c = search needs
 
 latest-of-requires : tie.Need-latest-of-requires
-latest-of-requires c κs = let o = subst (OpenedIf _ _) (c .before .opened2 .given .1) (c .before .before .before .open-with-log .ensures .1) in record { law = o .law; heapLong = refl; recordsLong = o .recordsLong }
+latest-of-requires c κs =
+    let o = subst (LoggedIf _ _ _) (c .before .opened2 .given .1) (c .before .before .before .open-with-log .ensures .1) in
+    (record { law = o .0 .law; heapLong = refl; recordsLong = o .0 .recordsLong }, o .1)
 
 returns : tie.Need-returns
 unfolding latestOf

@@ -29,10 +29,10 @@ enum-known-found c = search needs
 
 -- the part lies in its area
 row-inside : (c : tie.After-found) → c .found .given .0 .0 * 16 + 16 ≤ length (c .before .before .before .before .before .before .before .args .log .now)
-row-inside c = subst (LatestIf _ _) (c .found .given .1) (c .before .before .find-latest .ensures .1)
+row-inside c = subst (LatestIf _ _) (c .found .given .1) (c .before .before .find-latest .ensures .1) .0
 
 record-inside : (c : tie.After-found2) → c .found2 .given .0 .0 * 96 + 96 ≤ length (c .before .before .before .before .before .before .before .args .records .now)
-record-inside c = subst (LatestIf _ _) (c .found2 .given .1) (c .before .before .find-latest .ensures .1)
+record-inside c = subst (LatestIf _ _) (c .found2 .given .1) (c .before .before .find-latest .ensures .1) .0
 
 mul-at : tie.Need-mul-at
 mul-at c = let k = row-inside (c .before) in omega arith

@@ -17,7 +17,9 @@ enum-known-own : tie.Need-enum-known-own
 enum-known-own c = search needs
 
 latest-owned-requires : tie.Need-latest-owned-requires
-latest-owned-requires c κs = (c .before .before .before .before .before .before .before .before .pre, subst (OwnIf _) (c .before .own .given .1) (c .before .before .before .own-of .ensures .1))
+latest-owned-requires c κs =
+    let p = c .before .before .before .before .before .before .before .before .pre in
+    (p .0, (subst (OwnIf _) (c .before .own .given .1) (c .before .before .before .own-of .ensures .1), p .1))
 
 returns : tie.Need-returns
 unfolding indexedLatest

@@ -44,6 +44,7 @@ returns-2 : tie.Need-returns-2
 unfolding ownedLatest
 returns-2 c =
     let s = c .before .before .before .before .before .before .before .before .before .before in
+    let small = s .pre .1 .1 in
     let best = c .before .before .before .latest-row .ensures in
     let k : c .before .row .given .0 .0 < length (s .args .log .now) / 16 = row-below _ _ _ _ _ _ (ap (λ (b : Best). b .row) (sym best) ∙ c .before .row .given .1) in
     (rw (← c .before .before .before .before .before .before .before .read .ensures, eq-eqb _ _ (c .before .before .before .before .before .before .if1 .left), ← c .before .before .before .before .read2 .ensures, ← best, c .before .row .given .1), omega arith)
@@ -52,8 +53,9 @@ returns-3 : tie.Need-returns-3
 unfolding ownedLatest
 returns-3 c =
     let s = c .before .before .before .before .before .before .before .before .before in
-    let h = record-inside (s .args .g) (s .pre .0 .law) (s .args .j) (s .pre .1) in
+    let h = record-inside (s .args .g) (s .pre .0 .law) (s .args .j) (s .pre .1 .0) in
     let e = s .pre .0 .recordsLong in
+    let f = s .pre .0 .law .few in
     (rw (← c .before .before .before .before .before .before .read .ensures, eq-eqb _ _ (c .before .before .before .before .before .if1 .left), ← c .before .before .before .read2 .ensures, ← c .before .before .latest-row .ensures, c .enum-told .given .1), omega arith)
 
 pub latest-owned-spec : {M : Type 1} → statement M

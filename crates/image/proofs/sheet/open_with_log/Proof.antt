@@ -29,7 +29,7 @@ returns-3 c = (rw (← c .before .before .before .«open» .ensures .0, c .befor
 
 returns-4 : tie.Need-returns-4
 unfolding openedWithLog
-returns-4 c = (rw (← c .before .before .before .before .before .«open» .ensures .0, c .before .before .before .opened2 .given .1, eq-eqb _ _ (c .before .if1 .left), le-leb _ _ (c .if2 .left)), subst (OpenedIf _ _) (c .before .before .before .opened2 .given .1) (c .before .before .before .before .before .«open» .ensures .1))
+returns-4 c = (rw (← c .before .before .before .before .before .«open» .ensures .0, c .before .before .before .opened2 .given .1, eq-eqb _ _ (c .before .if1 .left), le-leb _ _ (c .if2 .left)), (subst (OpenedIf _ _) (c .before .before .before .opened2 .given .1) (c .before .before .before .before .before .«open» .ensures .1), c .if2 .left))
 
 pub open-with-log-spec : {M : Type 1} → statement M
 open-with-log-spec =
