@@ -17,9 +17,12 @@ use Rattle.image.specs.Walk.{marksOf, mark}
 use Rattle.image.specs.Chain.{Chain, occ}
 use Rattle.image.specs.Pairing.{ownOf, ofMark, OwnIf, Paired, PairedIn}
 use Rattle.image.specs.Judge.{ownedVerdict, againAt, byOwn, chunkAt, recordAddress, bufferAddress, judged, marked, metBy, imageChain, verdictOf}
-use Rattle.image.specs.Inspect.{rowOf, rowsOf, findingsOf, judgedBy}
+use Rattle.image.specs.Sheet.{Lawful}
+use Rattle.image.specs.Inspect.{rowOf, rowsOf, findingsOf, judgedBy, EndingIf, Small}
 use Rattle.image.specs.declared.sheet.Sheet.{Sheet}
 use Rattle.image.specs.declared.chain.Ending.{Ending}
+use Rattle.image.specs.declared.chain.Ending.the-variants as ending
+use Rattle.image.specs.declared.inspect.Overview.{Overview}
 use Rattle.image.specs.declared.pairing.Own.{Own}
 use Rattle.image.specs.declared.pairing.Own.the-variants.{One, NotOne}
 use Rattle.image.proofs.Chains as chains
@@ -93,3 +96,17 @@ judged-is g heap records pairs marks ending few p ends e =
     (λ j l. marked-met 512 (imageChain g records) marks j e (omega arith))
     ∙ ap (λ (o : Own). judged heap g i o (metBy (imageChain g records)) ending) (p i h)
     ∙ ap (judged heap g i (ownOf records (g .count) (bufferAddress g i)) (metBy (imageChain g records))) ends)
+
+-- ---- the numbers of a survey are small
+
+ending-small : (g : Sheet) (records : List ℕ) (e : Ending) → imageChain g records .ending ≡ e → g .count ≤ 512 → EndingIf 512 e
+ending-small g records ending.End q few = tt
+ending-small g records ending.Broken q few = tt
+ending-small g records (ending.Again i) q few = let h = chains.chain-again-below records (g .records) (g .count) (g .head) i q in omega arith
+
+pub survey-small : (g : Sheet) (records : List ℕ) (met : ℕ) (e : Ending) → Lawful g → met ≡ length (imageChain g records .met) → e ≡ imageChain g records .ending
+    → Small (record { count = g .count; met = met; ending = e })
+survey-small g records met e law m q =
+    let few = law .few in
+    let short = chains.chain-short records (g .records) (g .count) (g .head) in
+    record { some = law .some; few = few; met = omega arith; again = ending-small g records e (sym q) few }

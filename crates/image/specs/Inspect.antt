@@ -1,19 +1,23 @@
 -- "Inspect fills a lent row of findings, one record per buffer, rows past n untouched; each holds index and verdict, with its size or offset." Assumes nothing.
 use mathlib.Core.List.{List, [], _∷_, _++_}
-use Prim.Native.Nat.{ℕ, zero, suc, _*_}
+use Prim.Native.Nat.{ℕ, zero, suc, _*_, _≤_, _<_}
 use lib.Dec.{leb}
 use lib.ListN.{length, getD}
 use lib.Seq.{sets}
 use Rattle.words.specs.Run.{pick}
 use Rattle.tags.specs.Verdict.{verdictNumber, verdictValue}
 use Rattle.tags.specs.declared.verdict.Verdict.{Verdict}
-use Rattle.image.specs.Sheet.{openedOf, onOpened}
+use Rattle.image.specs.Sheet.{openedOf, openedWithLog, onOpened}
 use Rattle.image.specs.Pairing.{ofMark}
-use Rattle.image.specs.Judge.{judged, marked, verdictOf}
+use Rattle.image.specs.Judge.{judged, marked, verdictOf, imageChain}
 use Rattle.image.specs.declared.sheet.Sheet.{Sheet}
 use Rattle.image.specs.declared.chain.Ending.{Ending}
+use Rattle.image.specs.declared.chain.Ending.the-variants as ending
 use Rattle.image.specs.declared.refusal.Refusal.{Refusal}
 use Rattle.image.specs.declared.refusal.Refusal.the-variants.{ShortOutput}
+use Rattle.image.specs.declared.inspect.Overview.{Overview}
+use Rattle.image.specs.declared.inspect.Surveyed.{Surveyed}
+use Rattle.image.specs.declared.inspect.Surveyed.the-variants as surveys
 use Rattle.image.specs.declared.inspect.Inspected.{Inspected}
 use Rattle.image.specs.declared.inspect.Inspected.the-variants.{Count, Refused}
 
@@ -43,6 +47,39 @@ inspectOf s heap records rows =
     (record { answer = Count (g .count); rows = sets rows 0 (findingsOf g heap records) })
     (record { answer = Refused ShortOutput; rows = rows }))
     (λ why. record { answer = Refused why; rows = rows })
+
+-- what a survey of an image tells: the number of its buffers, how many records the chain meets, and how it ends
+abbrev pub surveyed : Sheet → List ℕ → Overview
+surveyed g records = record { count = g .count; met = length (imageChain g records .met); ending = imageChain g records .ending }
+
+pub record Surveying : Type 0 where
+  pub answer : Surveyed
+  pub rows : List ℕ
+
+-- the same tests and the same rows as inspect has, of an image with a log of l bytes
+unfoldable pub surveyOf : List ℕ → List ℕ → List ℕ → ℕ → List ℕ → Surveying
+surveyOf s heap records l rows =
+    onOpened (openedWithLog s (length heap) (length records) l)
+    (λ g. pick (leb (g .count * 3) (length rows))
+    (record { answer = surveys.Image (surveyed g records); rows = sets rows 0 (findingsOf g heap records) })
+    (record { answer = surveys.Refused ShortOutput; rows = rows }))
+    (λ why. record { answer = surveys.Refused why; rows = rows })
+
+-- what is known of a survey: its numbers are small
+abbrev pub EndingIf : ℕ → Ending → Type 0
+EndingIf n ending.End = Unit {0}
+EndingIf n ending.Broken = Unit {0}
+EndingIf n (ending.Again i) = i < n
+
+pub record Small (s : Overview) : Type 0 where
+  pub some : 1 ≤ s .count
+  pub few : s .count ≤ 512
+  pub met : s .met ≤ 512
+  pub again : EndingIf 512 (s .ending)
+
+abbrev pub SurveyedIf : Surveyed → Type 0
+SurveyedIf (surveys.Image s) = Small s
+SurveyedIf (surveys.Refused why) = Unit {0}
 
 -- ---- how the code holds it
 

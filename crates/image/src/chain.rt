@@ -68,7 +68,13 @@ fn walk(records: &&[u8], base: u32, n: usize, word: u32, marks: &mut [u8; 512], 
 
 // The chain from the head. The marks are one byte to a record: 0 at entry, and at exit 1 at each record met. How the chain
 // ends is told by the word at which it stops: 0, no record's address, or that of a record already met.
-pub fn walk_from(records: &[u8], base: u32, n: usize, head: u32, marks: &mut [u8; 512]) -> Walked
+pub(crate) fn walk_from(
+    records: &[u8],
+    base: u32,
+    n: usize,
+    head: u32,
+    marks: &mut [u8; 512],
+) -> Walked
     requires { ⌜ n * recordSize ≤ length (now records) ⌝ }
     requires { ⌜ n ≤ 512 ⌝ }
     requires { ⌜ now marks ≡ replicate 512 0 ⌝ }

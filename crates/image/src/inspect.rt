@@ -7,7 +7,7 @@ ghost use lib.Seq.{sets};
 ghost use Rattle.image.specs.Sheet.{Lawful, Open, heapLength};
 ghost use Rattle.image.specs.Pairing.{PairedIn, ofMark};
 ghost use Rattle.image.specs.Judge.{judged, marked, imageChain};
-ghost use Rattle.image.specs.Inspect.{rowOf, rowsOf, judgedBy, findingsOf, inspectOf};
+ghost use Rattle.image.specs.Inspect.{rowOf, rowsOf, judgedBy, findingsOf, inspectOf, surveyOf, SurveyedIf};
 use crate::chain;
 use crate::chain::Ending;
 use crate::chain::Walked;
@@ -23,6 +23,19 @@ use tags::verdict::Verdict;
 // How many buffers were inspected, or why none was.
 pub enum Inspected {
     Count(usize),
+    Refused(Refusal),
+}
+
+// The number of buffers of an image, how many records its chain meets and how it ends; the findings stand in the lent row.
+pub struct Overview {
+    pub count: usize,
+    pub met: usize,
+    pub ending: Ending,
+}
+
+// A survey, or why there is none.
+pub enum Surveyed {
+    Image(Overview),
     Refused(Refusal),
 }
 
@@ -64,7 +77,7 @@ fn judge_rows(
 }
 
 // Judges every buffer of an open image, writes the rows, and answers the chain.
-pub fn survey(heap: &[u8], records: &[u8], g: Sheet, rows: &mut [u32]) -> Walked
+fn survey_open(heap: &[u8], records: &[u8], g: Sheet, rows: &mut [u32]) -> Walked
     requires { ⌜ Open (length (now heap)) (length (now records)) g ⌝ }
     requires { ⌜ g .count * 3 ≤ length (now rows) ⌝ }
     ensures rows { λ _. ⌜ now (rows .exit) ≡ sets (now (rows .entry)) 0 (findingsOf g (now (heap .entry)) (now (records .entry))) ⌝ }
@@ -93,8 +106,36 @@ pub fn inspect(sheet: &[u8], heap: &[u8], records: &[u8], rows: &mut [u32]) -> I
             if rows.len() < n * 3 {
                 return Inspected::Refused(Refusal::ShortOutput);
             }
-            survey(heap, records, g, rows);
+            survey_open(heap, records, g, rows);
             Inspected::Count(n)
+        }
+    }
+}
+
+// Fills a lent row of numbers as `inspect` does, of an image with a log, and tells of the chain too.
+pub fn survey(sheet: &[u8], heap: &[u8], records: &[u8], log: &[u8], rows: &mut [u32]) -> Surveyed
+    ensures answer { λ r. ⌜ r
+        ≡ surveyOf (now (sheet .entry)) (now (heap .entry)) (now (records .entry)) (length (now (log .entry))) (now (rows .entry)) .answer ⌝ }
+    ensures rows { λ _. ⌜ now (rows .exit)
+        ≡ surveyOf (now (sheet .entry)) (now (heap .entry)) (now (records .entry)) (length (now (log .entry))) (now (rows .entry)) .rows ⌝ }
+    ensures small { λ r. ⌜ SurveyedIf r ⌝ }
+{
+    let opened = sheet::open_with_log(sheet, heap.len(), records.len(), log.len());
+    match opened {
+        Opened::Refused(why) => Surveyed::Refused(why),
+        Opened::Image(g) => {
+            let n = g.count;
+            if rows.len() < n * 3 {
+                return Surveyed::Refused(Refusal::ShortOutput);
+            }
+            let walked = survey_open(heap, records, g, rows);
+            let met = walked.met;
+            let ending = walked.ending;
+            Surveyed::Image(Overview {
+                count: n,
+                met,
+                ending,
+            })
         }
     }
 }

@@ -68,7 +68,7 @@ fn again_at(ending: Ending, j: usize) -> bool
 }
 
 // The verdict on buffer i, whose own record is given, with the marks of the records that the chain met and its ending.
-pub fn judge_buffer(
+pub(crate) fn judge_buffer(
     heap: &[u8],
     g: Sheet,
     i: usize,

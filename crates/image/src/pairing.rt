@@ -24,7 +24,7 @@ fn note(mark: u16, j: usize) -> u16
 
 // One pass over the records of n buffers of `chunk` bytes from `base` on. The marks are 0 at entry. At exit the mark of a
 // buffer is 0 where no record names it, j + 1 where record j alone does, and 65535 where several do.
-pub fn pair(records: &[u8], base: u32, chunk: usize, n: usize, marks: &mut [u16; 512])
+pub(crate) fn pair(records: &[u8], base: u32, chunk: usize, n: usize, marks: &mut [u16; 512])
     requires { ⌜ n * recordSize ≤ length (now records) ⌝ }
     requires { ⌜ n ≤ 512 ⌝ }
     requires { ⌜ 0 < chunk ⌝ }
@@ -59,7 +59,7 @@ fn said(mark: u16) -> Own
 }
 
 // Buffer i's own record, by its mark.
-pub fn own_record(marks: &[u16; 512], i: usize) -> Own
+pub(crate) fn own_record(marks: &[u16; 512], i: usize) -> Own
     requires { ⌜ i < 512 ⌝ }
     ensures { λ r. ⌜ r ≡ ofMark (getD (now (marks .entry)) i 0) ⌝ }
 {

@@ -10,7 +10,7 @@ pub enum Place {
 }
 
 // The place, of the first `count` places of `stride` bytes, whose address is `word`.
-pub fn find(base: u32, stride: usize, count: usize, word: u32) -> Place
+pub(crate) fn find(base: u32, stride: usize, count: usize, word: u32) -> Place
     requires { ⌜ 0 < stride ⌝ }
     ensures { λ r. ⌜ r ≡ placeOf base stride count word ⌝ }
 {

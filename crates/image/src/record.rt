@@ -19,7 +19,7 @@ pub const STAMP_LOW: usize = 20;
 pub const THREAD: usize = 24;
 
 // The word at an offset of record j.
-pub fn read(records: &[u8], j: usize, offset: usize) -> u32
+pub(crate) fn read(records: &[u8], j: usize, offset: usize) -> u32
     requires { ⌜ j * recordSize + recordSize ≤ length (now records) ⌝ }
     requires { ⌜ offset + 4 ≤ recordSize ⌝ }
     ensures { λ r. ⌜ r ≡ recordWord (now (records .entry)) j offset ⌝ }

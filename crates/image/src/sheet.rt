@@ -142,7 +142,7 @@ fn bases_lawful(heap: u64, records: u64, heap_len: u64, records_len: u64) -> boo
 }
 
 // Whether a sheet's numbers keep their limits.
-pub fn is_lawful(g: Sheet) -> bool
+fn is_lawful(g: Sheet) -> bool
     ensures { λ r. ⌜ r ≡ lawful g ⌝ }
 {
     if sizes_lawful(g.size, g.chunk, g.count, g.flags) {
@@ -183,7 +183,7 @@ fn judge_numbers(g: Sheet, heap_len: usize, records_len: usize) -> Opened
 }
 
 // Opens an image whose areas have these lengths.
-pub fn open(sheet: &[u8], heap_len: usize, records_len: usize) -> Opened
+pub(crate) fn open(sheet: &[u8], heap_len: usize, records_len: usize) -> Opened
     ensures { λ r. ⌜ r ≡ openedOf (now (sheet .entry)) «heap_len» «records_len» ⌝ }
     ensures { λ r. ⌜ OpenedIf «heap_len» «records_len» r ⌝ }
 {
@@ -194,7 +194,12 @@ pub fn open(sheet: &[u8], heap_len: usize, records_len: usize) -> Opened
 }
 
 // The same where a log is given too.
-pub fn open_with_log(sheet: &[u8], heap_len: usize, records_len: usize, log_len: usize) -> Opened
+pub(crate) fn open_with_log(
+    sheet: &[u8],
+    heap_len: usize,
+    records_len: usize,
+    log_len: usize,
+) -> Opened
     ensures { λ r. ⌜ r ≡ openedWithLog (now (sheet .entry)) «heap_len» «records_len» «log_len» ⌝ }
     ensures { λ r. ⌜ LoggedIf «heap_len» «records_len» «log_len» r ⌝ }
 {

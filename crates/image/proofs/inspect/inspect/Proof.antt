@@ -31,8 +31,8 @@ returns : tie.Need-returns
 unfolding inspectOf
 returns c = rw (← c .before .before .before .before .«open» .ensures .0, c .before .before .opened2 .given .1, lt-leb _ _ (c .if1 .taken)) (refl, refl)
 
-survey-requires : tie.Need-survey-requires
-survey-requires c κs = (known (c .before .before .before), omega arith)
+survey-open-requires : tie.Need-survey-open-requires
+survey-open-requires c κs = (known (c .before .before .before), omega arith)
 
 returns-2 : tie.Need-returns-2
 unfolding inspectOf
@@ -43,7 +43,7 @@ same-length c = search needs
 
 returns-3 : tie.Need-returns-3
 unfolding inspectOf
-returns-3 c = rw (← c .before .before .before .before .before .before .before .before .«open» .ensures .0, c .before .before .before .before .before .before .opened2 .given .1, le-leb _ _ (c .before .before .before .before .if1 .left)) (refl, c .before .before .survey .ensures .0)
+returns-3 c = rw (← c .before .before .before .before .before .before .before .before .«open» .ensures .0, c .before .before .before .before .before .before .opened2 .given .1, le-leb _ _ (c .before .before .before .before .if1 .left)) (refl, c .before .before .survey-open .ensures .0)
 
 pub inspect-spec : {M : Type 1} → statement M
 inspect-spec =
@@ -54,7 +54,7 @@ inspect-spec =
     enum-known-opened-2
     mul-if1
     returns
-    survey-requires
+    survey-open-requires
     returns-2
     same-length
     returns-3)

@@ -1,33 +1,66 @@
--- The pairing and the walk leave marks, and the rows are judged by them. Assumes nothing.
-use mathlib.Core.Path.{refl, ap, _∙_}
+-- An image that is refused, or a row that is too short, leaves the row; else the rows and the chain are those of the image. Assumes nothing.
+use mathlib.Core.Path.{refl, subst}
 use native.Mathlib.Omega.{arith}
+use borrow.Author.Tests.{le-leb, lt-leb}
 use borrow.Author.Needs.{needs}
-use lib.Seq.{sets}
-use Rattle.image.proofs.Findings.{paired-in, judged-is}
+use lib.ListN.{length}
+use Rattle.image.proofs.Findings.{survey-small}
+use Rattle.image.specs.Inspect.{surveyOf}
+use Rattle.image.specs.Sheet.{Open, LoggedIf}
 use Rattle.image.proofs.inspect.survey.Statement.{statement}
 use Rattle.image.proofs.inspect.survey.Tie as tie
 
-pair-requires : tie.Need-pair-requires
-pair-requires c κs = let o = c .before .before .before .before .pre .0 in let l = o .law in (omega arith, (l .few, (omega arith, refl)))
+open-with-log-requires : tie.Need-open-with-log-requires
+open-with-log-requires c κs = search needs
 
-walk-from-requires : tie.Need-walk-from-requires
-walk-from-requires c κs = search needs
+enum-known-opened : tie.Need-enum-known-opened
+enum-known-opened c = search needs
 
-judge-rows-requires : tie.Need-judge-rows-requires
-judge-rows-requires c κs =
-    let s = c .before .before .before .before .before .before .before .before .before .before in
-    (s .pre .0 .law, (s .pre .0 .heapLong, (paired-in (s .args .records .now) (s .args .g .heap) (s .args .g .chunk) (s .args .g .count) (c .before .before .before .before .before .pair .last .1 .1 .1 .1 .0) (c .before .before .before .before .before .pair .ensures), s .pre .1)))
+enum-known-opened-2 : tie.Need-enum-known-opened-2
+enum-known-opened-2 c = search needs
+
+-- the image is open
+known : (c : tie.After-opened2) →
+    let a = c .before .before .before .before .before .before .before .before .args in
+    Open (length (a .heap .now)) (length (a .records .now)) (c .opened2 .given .0 .0)
+known c = subst (LoggedIf _ _ _) (c .opened2 .given .1) (c .before .before .open-with-log .ensures .1) .0
+
+mul-if1 : tie.Need-mul-if1
+mul-if1 c = let o = known (c .before) in let f = o .law .few in omega arith
+
+returns : tie.Need-returns
+unfolding surveyOf
+returns c = rw (← c .before .before .before .before .open-with-log .ensures .0, c .before .before .opened2 .given .1, lt-leb _ _ (c .if1 .taken)) (refl, (refl, tt))
+
+survey-open-requires : tie.Need-survey-open-requires
+survey-open-requires c κs = (known (c .before .before .before), omega arith)
+
+returns-2 : tie.Need-returns-2
+unfolding surveyOf
+returns-2 c = rw (← c .before .before .before .open-with-log .ensures .0, c .before .opened .given .1) (refl, (refl, tt))
 
 same-length : tie.Need-same-length
 same-length c = search needs
 
-returns : tie.Need-returns
-returns c =
-    let s = c .before .before .before .before .before .before .before .before .before .before .before .before .before in
-    let w = c .before .before .before .before .before .before .walk-from .ensures in
-    let p = c .before .before .before .before .before .before .before .before .pair .ensures in
-    (c .before .before .judge-rows .ensures ∙ ap (sets (s .args .rows .now) 0) (judged-is (s .args .g) (s .args .heap .now) (s .args .records .now) (c .before .before .before .before .before .before .before .before .pair .last .1 .1 .1 .1 .0) _ _ (s .pre .0 .law .few) p (w .1 .0) (w .1 .1)), (w .0, w .1 .0))
+returns-3 : tie.Need-returns-3
+unfolding surveyOf
+returns-3 c =
+    let o = c .before .before .before .before .before .before in
+    let records = o .before .before .before .before .before .before .before .before .args .records .now in
+    let s = c .before .before .survey-open .ensures in
+    rw (← o .before .before .open-with-log .ensures .0, o .opened2 .given .1, le-leb _ _ (c .before .before .before .before .if1 .left))
+    (rw (s .1 .0, s .1 .1) refl, (s .0, survey-small (o .opened2 .given .0 .0) records _ _ (known o .law) (s .1 .0) (s .1 .1)))
 
 pub survey-spec : {M : Type 1} → statement M
 survey-spec =
-    tie.close (tie.spec pair-requires walk-from-requires judge-rows-requires same-length returns)
+    tie.close
+    (tie.spec
+    open-with-log-requires
+    enum-known-opened
+    enum-known-opened-2
+    mul-if1
+    returns
+    survey-open-requires
+    returns-2
+    same-length
+    returns-3)
