@@ -48,6 +48,11 @@ inspectOf s heap records rows =
     (record { answer = Refused ShortOutput; rows = rows }))
     (λ why. record { answer = Refused why; rows = rows })
 
+-- what is known of the answer: a count is small
+abbrev pub InspectedIf : Inspected → Type 0
+InspectedIf (Count n) = n ≤ 512
+InspectedIf (Refused why) = Unit {0}
+
 -- what a survey of an image tells: the number of its buffers, how many records the chain meets, and how it ends
 abbrev pub surveyed : Sheet → List ℕ → Overview
 surveyed g records = record { count = g .count; met = length (imageChain g records .met); ending = imageChain g records .ending }

@@ -7,7 +7,7 @@ ghost use lib.Seq.{sets};
 ghost use Rattle.image.specs.Sheet.{Lawful, Open, heapLength};
 ghost use Rattle.image.specs.Pairing.{PairedIn, ofMark};
 ghost use Rattle.image.specs.Judge.{judged, marked, imageChain};
-ghost use Rattle.image.specs.Inspect.{rowOf, rowsOf, judgedBy, findingsOf, inspectOf, surveyOf, SurveyedIf};
+ghost use Rattle.image.specs.Inspect.{rowOf, rowsOf, judgedBy, findingsOf, inspectOf, InspectedIf, surveyOf, SurveyedIf};
 use crate::chain;
 use crate::chain::Ending;
 use crate::chain::Walked;
@@ -97,6 +97,7 @@ fn survey_open(heap: &[u8], records: &[u8], g: Sheet, rows: &mut [u32]) -> Walke
 pub fn inspect(sheet: &[u8], heap: &[u8], records: &[u8], rows: &mut [u32]) -> Inspected
     ensures answer { λ r. ⌜ r ≡ inspectOf (now (sheet .entry)) (now (heap .entry)) (now (records .entry)) (now (rows .entry)) .answer ⌝ }
     ensures rows { λ _. ⌜ now (rows .exit) ≡ inspectOf (now (sheet .entry)) (now (heap .entry)) (now (records .entry)) (now (rows .entry)) .rows ⌝ }
+    ensures small { λ r. ⌜ InspectedIf r ⌝ }
 {
     let opened = sheet::open(sheet, heap.len(), records.len());
     match opened {

@@ -29,21 +29,21 @@ mul-if1 c = let o = known (c .before) in let f = o .law .few in omega arith
 
 returns : tie.Need-returns
 unfolding inspectOf
-returns c = rw (← c .before .before .before .before .«open» .ensures .0, c .before .before .opened2 .given .1, lt-leb _ _ (c .if1 .taken)) (refl, refl)
+returns c = rw (← c .before .before .before .before .«open» .ensures .0, c .before .before .opened2 .given .1, lt-leb _ _ (c .if1 .taken)) (refl, (refl, tt))
 
 survey-open-requires : tie.Need-survey-open-requires
 survey-open-requires c κs = (known (c .before .before .before), omega arith)
 
 returns-2 : tie.Need-returns-2
 unfolding inspectOf
-returns-2 c = rw (← c .before .before .before .«open» .ensures .0, c .before .opened .given .1) (refl, refl)
+returns-2 c = rw (← c .before .before .before .«open» .ensures .0, c .before .opened .given .1) (refl, (refl, tt))
 
 same-length : tie.Need-same-length
 same-length c = search needs
 
 returns-3 : tie.Need-returns-3
 unfolding inspectOf
-returns-3 c = rw (← c .before .before .before .before .before .before .before .before .«open» .ensures .0, c .before .before .before .before .before .before .opened2 .given .1, le-leb _ _ (c .before .before .before .before .if1 .left)) (refl, c .before .before .survey-open .ensures .0)
+returns-3 c = rw (← c .before .before .before .before .before .before .before .before .«open» .ensures .0, c .before .before .before .before .before .before .opened2 .given .1, le-leb _ _ (c .before .before .before .before .if1 .left)) (refl, (c .before .before .survey-open .ensures .0, known (c .before .before .before .before .before .before) .law .few))
 
 pub inspect-spec : {M : Type 1} → statement M
 inspect-spec =

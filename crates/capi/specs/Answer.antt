@@ -1,0 +1,27 @@
+-- One number for each answer: bits 0 to 7 the refusal's number, 8 to 15 its detail, 32 to 63 the value. Assumes nothing.
+use Prim.Native.Nat.{ℕ, _+_, _*_}
+use Rattle.image.specs.Refusal.{refusalNumber, refusalDetail}
+use Rattle.image.specs.declared.refusal.Refusal.{Refusal}
+use Rattle.image.specs.declared.inspect.Inspected.{Inspected}
+use Rattle.image.specs.declared.inspect.Inspected.the-variants as inspected
+use Rattle.image.specs.declared.latest.Transaction.{Transaction}
+use Rattle.image.specs.declared.latest.Transaction.the-variants as transaction
+
+-- a value, and no refusal
+unfoldable pub acceptedWord : ℕ → ℕ
+acceptedWord value = value * 4294967296
+
+-- a refusal's number and detail, and no value
+unfoldable pub refusedWord : Refusal → ℕ
+refusedWord why = refusalNumber why + refusalDetail why * 256
+
+-- the number of buffers inspected
+abbrev pub inspectWord : Inspected → ℕ
+inspectWord (inspected.Count n) = acceptedWord n
+inspectWord (inspected.Refused why) = refusedWord why
+
+-- the log row's number, or 0x80000000 plus the record's index
+abbrev pub latestWord : Transaction → ℕ
+latestWord (transaction.Row k) = acceptedWord k
+latestWord (transaction.Record j) = acceptedWord (0x80000000 + j)
+latestWord (transaction.Refused why) = refusedWord why
