@@ -12,6 +12,8 @@ use Rattle.image.specs.Record.{recordSize}
 use Rattle.image.specs.declared.refusal.Refusal.{Refusal}
 use Rattle.image.specs.declared.refusal.Refusal.the-variants.{BadSheet, BadNumber, BadLength}
 use Rattle.image.specs.declared.sheet.Sheet.{Sheet}
+use Rattle.image.specs.declared.sheet.Lengths.{Lengths}
+use Rattle.image.specs.declared.sheet.Lengths.the-variants as lengths
 use Rattle.image.specs.declared.sheet.Opened.{Opened}
 use Rattle.image.specs.declared.sheet.Opened.the-variants.{Image, Refused}
 
@@ -151,3 +153,17 @@ OpenedIf h r (Refused why) = Unit {0}
 abbrev pub LoggedIf : ℕ → ℕ → ℕ → Opened → Type 0
 LoggedIf h r l (Image g) = Open h r g × (l ≤ 16384)
 LoggedIf h r l (Refused why) = Unit {0}
+
+-- ---- the lengths that a sheet asks for
+
+unfoldable pub areasOf : Sheet → Lengths
+areasOf g = pick (lawful g) (lengths.Areas (heapLength g) (recordsLength g)) (lengths.Refused BadNumber)
+
+-- the tests 1 and 2, and then the lengths that 3 asks for
+unfoldable pub lengthsOf : List ℕ → Lengths
+lengthsOf s = pick (shaped s) (areasOf (sheetOf s)) (lengths.Refused BadSheet)
+
+-- what is known of them: they are small
+abbrev pub LengthsIf : Lengths → Type 0
+LengthsIf (lengths.Areas h r) = (h ≤ 65536) × (r ≤ 49152)
+LengthsIf (lengths.Refused why) = Unit {0}

@@ -5,7 +5,7 @@ ghost use Prim.Native.Nat.{_+_, _*_, _≤_};
 ghost use lib.Dec.{eqb};
 ghost use lib.ListN.{length};
 ghost use Rattle.words.specs.Word.{numberAt};
-ghost use Rattle.image.specs.Sheet.{fieldIs, shaped, sheetOf, sizesLawful, basesLawful, lawful, measured, numbered, openedOf, openedWithLog, Lawful, OpenedIf, LoggedIf};
+ghost use Rattle.image.specs.Sheet.{fieldIs, shaped, sheetOf, sizesLawful, basesLawful, lawful, measured, numbered, openedOf, openedWithLog, Lawful, OpenedIf, LoggedIf, areasOf, lengthsOf, LengthsIf};
 use crate::record;
 use crate::refusal::Refusal;
 use words::word;
@@ -33,6 +33,12 @@ pub struct Sheet {
 // An image that passed the tests 1 to 3, or why it did not.
 pub enum Opened {
     Image(Sheet),
+    Refused(Refusal),
+}
+
+// The lengths of the heap and of the record area, as a sheet has them, or why it has none.
+pub enum Lengths {
+    Areas(usize, usize),
     Refused(Refusal),
 }
 
@@ -216,4 +222,26 @@ pub(crate) fn open_with_log(
             Opened::Image(g)
         }
     }
+}
+
+// The lengths of the areas, by the sheet's numbers.
+fn measure_areas(g: Sheet) -> Lengths
+    ensures { λ r. ⌜ r ≡ areasOf g ⌝ }
+    ensures { λ r. ⌜ LengthsIf r ⌝ }
+{
+    if is_lawful(g) {
+        return Lengths::Areas(g.count * g.chunk, g.count * record::SIZE);
+    }
+    Lengths::Refused(Refusal::BadNumber)
+}
+
+// How long the areas of an image are, for a caller that has only its sheet yet.
+pub fn area_lengths(sheet: &[u8]) -> Lengths
+    ensures { λ r. ⌜ r ≡ lengthsOf (now (sheet .entry)) ⌝ }
+    ensures { λ r. ⌜ LengthsIf r ⌝ }
+{
+    if is_shaped(sheet) {
+        return measure_areas(read(sheet));
+    }
+    Lengths::Refused(Refusal::BadSheet)
 }
