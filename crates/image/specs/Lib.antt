@@ -8,3 +8,10 @@ pub mod Pairing
 pub mod Judge
 pub mod Inspect
 pub mod Latest
+pub mod Areas
+pub mod Layout
+pub mod Allocate
+pub mod Holding
+pub mod Free
+pub mod Store
+pub mod Show

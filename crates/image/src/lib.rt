@@ -31,3 +31,21 @@ pub mod inspect;
 
 // The latest transaction of a buffer.
 pub mod latest;
+
+// Lay out an image.
+pub mod layout;
+
+// Allocate a buffer.
+pub mod allocate;
+
+// A buffer that a client holds.
+pub mod holding;
+
+// Free a buffer.
+pub mod free;
+
+// Store into a buffer.
+pub mod store;
+
+// Show a client's bytes.
+pub mod show;

@@ -21,6 +21,12 @@ pub enum Refusal {
     WideStamp,
 }
 
+// Whether a call that answers nothing else was carried out.
+pub enum Outcome {
+    Done,
+    Refused(Refusal),
+}
+
 // The number of a refusal.
 pub fn number(r: Refusal) -> u32
     ensures { λ n. ⌜ n ≡ refusalNumber r ⌝ }

@@ -1,0 +1,1 @@
+// Free: a plan that only reads, and a commit that cannot fail.

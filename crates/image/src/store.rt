@@ -1,0 +1,1 @@
+// Store: a plan that only reads, and a commit that cannot fail.
