@@ -8,8 +8,9 @@ use native.Mathlib.Numerals.{add-one}
 use native.Mathlib.Omega.{arith}
 use borrow.Author.Tests.{eq-eqb, ne-eqb}
 use lib.Dec.{eqb}
-use lib.ListN.{length, getD, set, length-append}
-use lib.Seq.{sets}
+use native.Mathlib.Decide.{ℕ-discrete}
+use lib.ListN.{length, getD, set, drop, length-append, List·getD-append}
+use lib.Seq.{sets, sets-eq, getD-append-add}
 use Rattle.words.proofs.Laws.{sets-then}
 use Rattle.tags.specs.declared.verdict.Verdict.{Verdict}
 use Rattle.image.specs.Place.{placeAddress}
@@ -110,3 +111,31 @@ survey-small g records met e law m q =
     let few = law .few in
     let short = chains.chain-short records (g .records) (g .count) (g .head) in
     record { some = law .some; few = few; met = omega arith; again = ending-small g records e (sym q) few }
+
+-- ---- the numbers of a row
+
+row-number : (v : ℕ → Verdict) (n i k : ℕ) → i < n → k < 3 → getD (rowsOf v n) (i * 3 + k) 0 ≡ getD (rowOf i (v i)) k 0
+unfolding rowsOf
+row-number v zero i k h l = absurd (omega arith)
+row-number v (suc n) i k h l = go (ℕ-discrete i n) (row-number v n i k)
+  where
+    go : Dec (i ≡ n) → (i < n → k < 3 → getD (rowsOf v n) (i * 3 + k) 0 ≡ getD (rowOf i (v i)) k 0)
+        → getD (rowsOf v n ++ rowOf n (v n)) (i * 3 + k) 0 ≡ getD (rowOf i (v i)) k 0
+    go (yes e) ih =
+        ap (λ (x : ℕ). getD (rowsOf v n ++ rowOf n (v n)) (x + k) 0) (ap (λ (x : ℕ). x * 3) e ∙ sym (length-rows v n))
+        ∙ getD-append-add (rowsOf v n) (rowOf n (v n)) k 0
+        ∙ ap (λ (x : ℕ). getD (rowOf x (v x)) k 0) (sym e)
+    go (no d) ih =
+        let g : i < n = omega arith in
+        List·getD-append (rowsOf v n) (rowOf n (v n)) 0 (i * 3 + k) (omega (arith, length-rows v n)) ∙ ih g l
+
+-- number k of buffer i's row, in a lent row with the findings at its start
+module _ (g : Sheet) (heap records rows : List ℕ) (room : g .count * 3 ≤ length rows) (i : ℕ) (h : i < g .count) where
+  pub finding : (k : ℕ) → k < 3 → getD (sets rows 0 (findingsOf g heap records)) (i * 3 + k) 0 ≡ getD (rowOf i (verdictOf g heap records i)) k 0
+  unfolding findingsOf
+  finding k l =
+      let v = verdictOf g heap records in
+      let e : length (rowsOf v (g .count)) ≡ g .count * 3 = length-rows v (g .count) in
+      ap (λ (x : List ℕ). getD x (i * 3 + k) 0) (sets-eq (rowsOf v (g .count)) rows 0 (omega arith))
+      ∙ List·getD-append (rowsOf v (g .count)) (drop (0 + length (rowsOf v (g .count))) rows) 0 (i * 3 + k) (omega arith)
+      ∙ row-number v (g .count) i k h l

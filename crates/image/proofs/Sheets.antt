@@ -1,5 +1,5 @@
 -- What is known of a sheet that passed its tests. Assumes nothing.
-use mathlib.Core.Path.{_≡_, refl}
+use mathlib.Core.Path.{_≡_, refl, ap, subst, _∙_}
 use mathlib.Core.Logic.{_⊎_, inl, inr}
 use mathlib.Core.Bool.{Bool, true, false, _&&_, _||_, and-assoc, and-true as and-right}
 use mathlib.Core.List.{List}
@@ -9,12 +9,16 @@ use native.Mathlib.Nat.{mul-le-mul}
 use native.Mathlib.Omega.{arith}
 use borrow.Author.Tests.{eqb-true, eqb-false, leb-true, not-true}
 use lib.Dec.{eqb, leb}
+use Rattle.words.specs.Run.{pick}
 use Rattle.words.proofs.Laws.{below}
 use Rattle.tags.specs.Chunk.{ChunkLength}
 use Rattle.tags.proofs.Laws.{and-true}
 use Rattle.image.specs.Record.{recordSize}
-use Rattle.image.specs.Sheet.{fields, fieldsFrom, shaped, sizesLawful, basesLawful, lawful, Lawful, heapLength, recordsLength}
+use Rattle.image.specs.Sheet.{fields, fieldsFrom, shaped, sheetOf, lengthsRight, measured, numbered, openedOf, openedWithLog, onOpened, logRight, sizesLawful, basesLawful, lawful, Lawful, heapLength, recordsLength}
 use Rattle.image.specs.declared.sheet.Sheet.{Sheet}
+use Rattle.image.specs.declared.sheet.Opened.{Opened}
+use Rattle.image.specs.declared.sheet.Opened.the-variants.{Image, Refused}
+use Rattle.image.specs.declared.refusal.Refusal.the-variants.{BadSheet, BadNumber, BadLength}
 
 -- a product of bounded numbers
 pub product-below : (a b p q : ℕ) → a ≤ p → b ≤ q → a * b ≤ p * q
@@ -147,3 +151,26 @@ module _ (g : Sheet) (law : Lawful g) (i : ℕ) (h : i < g .count) where
 -- the length of a chunk
 pub chunk-length : (g : Sheet) → Lawful g → ChunkLength (g .chunk)
 chunk-length g law = let e = law .chunks in let l = law .least in let m = law .most in let s = law .eights in record { least = omega arith; most = omega arith; eights = omega arith }
+
+-- ---- an image that is open
+
+opened-law : (s : List ℕ) (h r : ℕ) (g : Sheet) → openedOf s h r ≡ Image g → Lawful g
+unfolding openedOf numbered measured
+opened-law s h r g e = go (shaped s) (lawful (sheetOf s)) (lengthsRight (sheetOf s) h r) refl e
+  where
+    go : (a b c : Bool) → lawful (sheetOf s) ≡ b → pick a (pick b (pick c (Image (sheetOf s)) (Refused BadLength)) (Refused BadNumber)) (Refused BadSheet) ≡ Image g
+        → Lawful g
+    go true true true l f = let z : sheetOf s ≡ g = cc in subst Lawful z (lawful-known (sheetOf s) l)
+    go true true false l f = absurd (let z : _≡_ {A = ℕ} 0 1 = cc in omega arith)
+    go true false c l f = absurd (let z : _≡_ {A = ℕ} 0 1 = cc in omega arith)
+    go false b c l f = absurd (let z : _≡_ {A = ℕ} 0 1 = cc in omega arith)
+
+-- a sheet that opens, with a log, is lawful
+pub logged-law : (s : List ℕ) (h r l : ℕ) (g : Sheet) → openedWithLog s h r l ≡ Image g → Lawful g
+unfolding openedWithLog
+logged-law s h r l g e = go (openedOf s h r) (logRight l) refl e
+  where
+    go : (o : Opened) (b : Bool) → openedOf s h r ≡ o → onOpened o (λ x. pick b (Image x) (Refused BadLength)) Refused ≡ Image g → Lawful g
+    go (Image x) true q f = let z : x ≡ g = cc in opened-law s h r g (q ∙ ap Image z)
+    go (Image x) false q f = absurd (let z : _≡_ {A = ℕ} 0 1 = cc in omega arith)
+    go (Refused why) b q f = absurd (let z : _≡_ {A = ℕ} 0 1 = cc in omega arith)

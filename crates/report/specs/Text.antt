@@ -3,7 +3,7 @@ use mathlib.Core.Path.{_≡_}
 use mathlib.Core.Bool.{Bool, _||_}
 use mathlib.Core.List.{List, [], _∷_, _++_}
 use Prim.Native.Char.{code}
-use Prim.Native.Nat.{ℕ, zero, suc, _+_, _*_, _/_, _%_}
+use Prim.Native.Nat.{ℕ, zero, suc, _+_, _*_, _/_, _%_, _≤_}
 use Prim.Native.String.{String, [] as none, _∷_ as _then_}
 use lib.Dec.{eqb, leb, ltb}
 use lib.ListN.{length, getD}
@@ -77,6 +77,10 @@ faultsIn number (suc i) = faultsIn number i + faultOf (number i)
 unfoldable pub faultsOf : ℕ → List ℕ
 faultsOf count = ascii "faults " ++ fieldOf count "\n"
 
+-- "`refused N` and a line feed"
+unfoldable pub refusalLineOf : ℕ → List ℕ
+refusalLineOf number = ascii "refused " ++ fieldOf number "\n"
+
 -- ---- the report
 
 -- the report of n buffers, each with its verdict's number and value, and of a chain that met so many records and ended so
@@ -104,3 +108,8 @@ writtenOf text output = pick (leb (length text) (length output)) (Length (length
 -- and "output past it stays"; an output that is too short stays as it was
 abbrev pub outputOf : List ℕ → List ℕ → List ℕ
 outputOf text output = pick (leb (length text) (length output)) (sets output 0 text) output
+
+-- what is known of the answer: the text fits an output of n bytes
+abbrev pub WrittenIf : ℕ → Written → Type 0
+WrittenIf n (Length k) = k ≤ n
+WrittenIf n Short = Unit {0}

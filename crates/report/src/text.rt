@@ -4,8 +4,11 @@ ghost use mathlib.Core.Path.{_≡_};
 ghost use mathlib.Core.List.{_++_};
 ghost use Prim.Native.Nat.{_+_, _*_, _^_, _≤_, _<_};
 ghost use lib.ListN.{length};
-ghost use Rattle.report.specs.Text.{decimalOf, headerOf, hasOffset, lineOf, chainLineOf, faultOf, faultsOf, rowNumber, rowValue, textOf, Wrote, writtenOf, outputOf};
+ghost use Rattle.report.specs.Text.{decimalOf, headerOf, hasOffset, lineOf, chainLineOf, faultOf, faultsOf, rowNumber, rowValue, textOf, Wrote, writtenOf, outputOf, WrittenIf, refusalLineOf};
+ghost use Rattle.image.specs.Refusal.{refusalNumber};
 use image::chain::Ending;
+use image::refusal;
+use image::refusal::Refusal;
 
 // How long the text is, where the output has room for it.
 pub enum Written {
@@ -130,7 +133,7 @@ fn fault(number: u32) -> usize
 // Puts the whole report of n buffers, as far as the output goes, and answers how long it is. Three numbers of `rows` stand
 // for each buffer, in the buffers' order: its index, which is not read, the number of its verdict, and the size or the
 // offset, 0 for a verdict that carries none.
-pub fn put_report(output: &mut [u8], rows: &[u32], n: usize, met: usize, ending: Ending) -> usize
+fn put_report(output: &mut [u8], rows: &[u32], n: usize, met: usize, ending: Ending) -> usize
     requires { ⌜ n ≤ 512 ⌝ }
     requires { ⌜ 3 * n ≤ length (now rows) ⌝ }
     ensures { λ r. ⌜ Wrote (now (output .entry)) 0 (textOf (rowNumber (now (rows .entry))) (rowValue (now (rows .entry))) n met ending) (now (output .exit)) r ⌝ }
@@ -149,7 +152,7 @@ pub fn put_report(output: &mut [u8], rows: &[u32], n: usize, met: usize, ending:
 }
 
 // Writes the whole report to the output's start and answers its length; or nothing, where the output is too short.
-pub fn write_report(
+pub(crate) fn write_report(
     rows: &[u32],
     n: usize,
     met: usize,
@@ -160,10 +163,33 @@ pub fn write_report(
     requires { ⌜ 3 * n ≤ length (now rows) ⌝ }
     ensures answer { λ r. ⌜ r ≡ writtenOf (textOf (rowNumber (now (rows .entry))) (rowValue (now (rows .entry))) n met ending) (now (output .entry)) ⌝ }
     ensures output { λ _. ⌜ now (output .exit) ≡ outputOf (textOf (rowNumber (now (rows .entry))) (rowValue (now (rows .entry))) n met ending) (now (output .entry)) ⌝ }
+    ensures fits { λ r. ⌜ WrittenIf (length (now (output .entry))) r ⌝ }
 {
     let need = put_report(&mut output[..0], rows, n, met, ending);
     if output.len() < need {
         return Written::Short;
     }
     Written::Length(put_report(output, rows, n, met, ending))
+}
+
+// Puts the line of a refusal.
+fn put_refusal(output: &mut [u8], number: u32) -> usize
+    ensures put { λ r. ⌜ Wrote (now (output .entry)) 0 (refusalLineOf number) (now (output .exit)) r ⌝ }
+{
+    let a = put(output, 0, b"refused ");
+    put_field(output, a, number as u64, b"\n")
+}
+
+// Writes `refused N` and a line feed to the output's start and answers its length; or nothing, where the output is too short.
+pub fn write_refusal(why: Refusal, output: &mut [u8]) -> Written
+    ensures answer { λ r. ⌜ r ≡ writtenOf (refusalLineOf (refusalNumber why)) (now (output .entry)) ⌝ }
+    ensures output { λ _. ⌜ now (output .exit) ≡ outputOf (refusalLineOf (refusalNumber why)) (now (output .entry)) ⌝ }
+    ensures fits { λ r. ⌜ WrittenIf (length (now (output .entry))) r ⌝ }
+{
+    let number = refusal::number(why);
+    let need = put_refusal(&mut output[..0], number);
+    if output.len() < need {
+        return Written::Short;
+    }
+    Written::Length(put_refusal(output, number))
 }

@@ -1,4 +1,5 @@
 -- The first run changes nothing and counts the text, so that the second has room for all of it. Assumes nothing.
+use native.Mathlib.Omega.{arith}
 use borrow.Author.Needs.{needs}
 use Rattle.report.specs.Text.{textOf, rowNumber, rowValue}
 use Rattle.report.proofs.Laws.{too-short, long-enough}
@@ -22,7 +23,8 @@ returns c =
     let a = c .before .before .before .before .before .before .before .args in
     let p = c .before .before .before .put-report in
     let t = textOf (rowNumber (a .rows .now)) (rowValue (a .rows .now)) (a .n) (a .met) (a .ending) in
-    too-short t (a .output .now) (p .last .0) (p .result) (p .ensures) (c .if1 .taken)
+    let s = too-short t (a .output .now) (p .last .0) (p .result) (p .ensures) (c .if1 .taken) in
+    (s .0, (s .1, tt))
 
 put-report-requires-2 : tie.Need-put-report-requires-2
 put-report-requires-2 c κs = search needs
@@ -36,8 +38,10 @@ returns-2 c =
     let p = c .before .before .before .before .before .before .before .put-report in
     let q = c .before .before .put-report2 in
     let t = textOf (rowNumber (a .rows .now)) (rowValue (a .rows .now)) (a .n) (a .met) (a .ending) in
-    long-enough t (a .output .now) (p .last .0) (p .result) (p .ensures) (c .before .before .before .before .if1 .left)
-    (q .last .0) (q .result) (q .ensures)
+    let s = long-enough t (a .output .now) (p .last .0) (p .result) (p .ensures) (c .before .before .before .before .if1 .left) (q .last .0) (q .result) (q .ensures) in
+    let first = p .ensures .ends in
+    let second = q .ensures .ends in
+    (s .0, (s .1, omega arith))
 
 pub write-report-spec : {M : Type 1} → statement M
 write-report-spec =

@@ -1,0 +1,36 @@
+-- The word is put, and the number behind it. Assumes nothing.
+use borrow.Author.Needs.{needs}
+use Rattle.report.proofs.Laws.{then}
+use Rattle.report.specs.Text.{refusalLineOf}
+use Rattle.report.proofs.text.put_refusal.Statement.{statement}
+use Rattle.report.proofs.text.put_refusal.Tie as tie
+
+slice-aggregate-put : tie.Need-slice-aggregate-put
+slice-aggregate-put c = search needs
+
+put-requires : tie.Need-put-requires
+put-requires c κs = search needs
+
+slice-aggregate-put-field : tie.Need-slice-aggregate-put-field
+slice-aggregate-put-field c = search needs
+
+put-field-requires : tie.Need-put-field-requires
+put-field-requires c κs = search needs
+
+same-length : tie.Need-same-length
+same-length c = search needs
+
+returns : tie.Need-returns
+unfolding refusalLineOf
+returns c = then (c .before .before .before .before .before .before .before .put .ensures) (c .before .before .put-field .ensures .0)
+
+pub put-refusal-spec : {M : Type 1} → statement M
+put-refusal-spec =
+    tie.close
+    (tie.spec
+    slice-aggregate-put
+    put-requires
+    slice-aggregate-put-field
+    put-field-requires
+    same-length
+    returns)

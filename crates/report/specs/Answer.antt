@@ -1,0 +1,40 @@
+-- What the report call answers, and the output afterwards. Assumes nothing.
+use mathlib.Core.List.{List}
+use Prim.Native.Nat.{ℕ, _≤_}
+use lib.Dec.{leb}
+use lib.ListN.{length}
+use lib.Seq.{sets}
+use Rattle.words.specs.Run.{pick}
+use Rattle.tags.specs.Verdict.{verdictNumber, verdictValue}
+use Rattle.image.specs.Sheet.{openedWithLog, onOpened}
+use Rattle.image.specs.Judge.{verdictOf, imageChain}
+use Rattle.image.specs.declared.sheet.Sheet.{Sheet}
+use Rattle.image.specs.declared.refusal.Refusal.{Refusal}
+use Rattle.image.specs.declared.refusal.Refusal.the-variants.{ShortOutput}
+use Rattle.report.specs.Text.{textOf}
+use Rattle.report.specs.declared.answer.Reported.{Reported}
+use Rattle.report.specs.declared.answer.Reported.the-variants.{Length, Refused}
+
+-- the text of an image: each buffer's verdict, the records that the chain meets and how it ends
+unfoldable pub reportText : Sheet → List ℕ → List ℕ → List ℕ
+reportText g heap records =
+    textOf (λ i. verdictNumber (verdictOf g heap records i)) (λ i. verdictValue (verdictOf g heap records i)) (g .count)
+    (length (imageChain g records .met)) (imageChain g records .ending)
+
+pub record Reporting : Type 0 where
+  pub answer : Reported
+  pub output : List ℕ
+
+-- "Inspect and report: 11", after 1, 2 and 3 with the log; "The call answers the length filled; output past it stays"
+unfoldable pub reportOf : List ℕ → List ℕ → List ℕ → ℕ → List ℕ → Reporting
+reportOf s heap records l output =
+    onOpened (openedWithLog s (length heap) (length records) l)
+    (λ g. pick (leb (length (reportText g heap records)) (length output))
+    (record { answer = Length (length (reportText g heap records)); output = sets output 0 (reportText g heap records) })
+    (record { answer = Refused ShortOutput; output = output }))
+    (λ why. record { answer = Refused why; output = output })
+
+-- what is known of the answer: the text fits an output of n bytes
+abbrev pub ReportedIf : ℕ → Reported → Type 0
+ReportedIf n (Length k) = k ≤ n
+ReportedIf n (Refused why) = Unit {0}
