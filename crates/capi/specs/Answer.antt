@@ -6,6 +6,8 @@ use Rattle.image.specs.declared.inspect.Inspected.{Inspected}
 use Rattle.image.specs.declared.inspect.Inspected.the-variants as inspected
 use Rattle.image.specs.declared.latest.Transaction.{Transaction}
 use Rattle.image.specs.declared.latest.Transaction.the-variants as transaction
+use Rattle.report.specs.declared.answer.Reported.{Reported}
+use Rattle.report.specs.declared.answer.Reported.the-variants as reported
 
 -- a value, and no refusal
 unfoldable pub acceptedWord : ℕ → ℕ
@@ -25,3 +27,8 @@ abbrev pub latestWord : Transaction → ℕ
 latestWord (transaction.Row k) = acceptedWord k
 latestWord (transaction.Record j) = acceptedWord (0x80000000 + j)
 latestWord (transaction.Refused why) = refusedWord why
+
+-- the length filled
+abbrev pub reportWord : Reported → ℕ
+reportWord (reported.Length n) = acceptedWord n
+reportWord (reported.Refused why) = refusedWord why

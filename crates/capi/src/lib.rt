@@ -5,13 +5,16 @@ ghost use mathlib.Core.Path.{_≡_};
 ghost use lib.ListN.{length};
 ghost use Rattle.image.specs.Inspect.{inspectOf};
 ghost use Rattle.image.specs.Latest.{latestOf};
-ghost use Rattle.capi.specs.Answer.{acceptedWord, refusedWord, inspectWord, latestWord};
+ghost use Rattle.capi.specs.Answer.{acceptedWord, refusedWord, inspectWord, latestWord, reportWord};
+ghost use Rattle.report.specs.Answer.{reportOf};
 use image::inspect;
 use image::inspect::Inspected;
 use image::latest;
 use image::latest::Transaction;
 use image::refusal;
 use image::refusal::Refusal;
+use report::answer;
+use report::answer::Reported;
 
 // What an accepted call returns.
 fn accepted(value: u32) -> u64
@@ -62,5 +65,26 @@ pub extern "C" fn cg_latest(
         Transaction::Refused(why) => refused(why),
         Transaction::Row(k) => accepted(k as u32),
         Transaction::Record(j) => accepted(0x80000000 + j as u32),
+    }
+}
+
+// Writes the report to the output's start. The value is the length filled.
+#[no_mangle]
+pub extern "C" fn cg_report(
+    sheet: &[u8],
+    heap: &[u8],
+    records: &[u8],
+    log: &[u8],
+    output: &mut [u8],
+) -> u64
+    ensures answer { λ r. ⌜ r
+        ≡ reportWord (reportOf (now (sheet .entry)) (now (heap .entry)) (now (records .entry)) (length (now (log .entry))) (now (output .entry)) .answer) ⌝ }
+    ensures output { λ _. ⌜ now (output .exit)
+        ≡ reportOf (now (sheet .entry)) (now (heap .entry)) (now (records .entry)) (length (now (log .entry))) (now (output .entry)) .output ⌝ }
+{
+    let r = answer::report(sheet, heap, records, log, output);
+    match r {
+        Reported::Refused(why) => refused(why),
+        Reported::Length(n) => accepted(n as u32),
     }
 }

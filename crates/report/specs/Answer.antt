@@ -34,7 +34,7 @@ reportOf s heap records l output =
     (record { answer = Refused ShortOutput; output = output }))
     (λ why. record { answer = Refused why; output = output })
 
--- what is known of the answer: the text fits an output of n bytes
+-- what is known of the answer: the text fits an output of n bytes, and is not long
 abbrev pub ReportedIf : ℕ → Reported → Type 0
-ReportedIf n (Length k) = k ≤ n
+ReportedIf n (Length k) = (k ≤ n) × (k ≤ 65535)
 ReportedIf n (Refused why) = Unit {0}

@@ -109,7 +109,7 @@ writtenOf text output = pick (leb (length text) (length output)) (Length (length
 abbrev pub outputOf : List ℕ → List ℕ → List ℕ
 outputOf text output = pick (leb (length text) (length output)) (sets output 0 text) output
 
--- what is known of the answer: the text fits an output of n bytes
+-- what is known of the answer: the text fits an output of n bytes, and is not long
 abbrev pub WrittenIf : ℕ → Written → Type 0
-WrittenIf n (Length k) = k ≤ n
+WrittenIf n (Length k) = (k ≤ n) × (k ≤ 65535)
 WrittenIf n Short = Unit {0}

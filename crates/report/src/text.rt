@@ -116,7 +116,8 @@ fn put_chain(output: &mut [u8], at: usize, met: usize, ending: Ending) -> usize
 // Puts the last line.
 fn put_faults(output: &mut [u8], at: usize, faults: usize) -> usize
     requires { ⌜ at < 2 ^ 61 ⌝ }
-    ensures { λ r. ⌜ Wrote (now (output .entry)) at (faultsOf faults) (now (output .exit)) r ⌝ }
+    ensures put { λ r. ⌜ Wrote (now (output .entry)) at (faultsOf faults) (now (output .exit)) r ⌝ }
+    ensures short { λ r. ⌜ r ≤ at + 60 ⌝ }
 {
     let a = put(output, at, b"faults ");
     put_field(output, a, faults as u64, b"\n")
@@ -136,7 +137,8 @@ fn fault(number: u32) -> usize
 fn put_report(output: &mut [u8], rows: &[u32], n: usize, met: usize, ending: Ending) -> usize
     requires { ⌜ n ≤ 512 ⌝ }
     requires { ⌜ 3 * n ≤ length (now rows) ⌝ }
-    ensures { λ r. ⌜ Wrote (now (output .entry)) 0 (textOf (rowNumber (now (rows .entry))) (rowValue (now (rows .entry))) n met ending) (now (output .exit)) r ⌝ }
+    ensures put { λ r. ⌜ Wrote (now (output .entry)) 0 (textOf (rowNumber (now (rows .entry))) (rowValue (now (rows .entry))) n met ending) (now (output .exit)) r ⌝ }
+    ensures short { λ r. ⌜ r ≤ 65535 ⌝ }
 {
     let mut at = put_header(output);
     let mut faults = 0;
@@ -175,6 +177,7 @@ pub(crate) fn write_report(
 // Puts the line of a refusal.
 fn put_refusal(output: &mut [u8], number: u32) -> usize
     ensures put { λ r. ⌜ Wrote (now (output .entry)) 0 (refusalLineOf number) (now (output .exit)) r ⌝ }
+    ensures short { λ r. ⌜ r ≤ 60 ⌝ }
 {
     let a = put(output, 0, b"refused ");
     put_field(output, a, number as u64, b"\n")

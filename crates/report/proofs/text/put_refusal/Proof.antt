@@ -1,4 +1,5 @@
 -- The word is put, and the number behind it. Assumes nothing.
+use native.Mathlib.Omega.{arith}
 use borrow.Author.Needs.{needs}
 use Rattle.report.proofs.Laws.{then}
 use Rattle.report.specs.Text.{refusalLineOf}
@@ -22,7 +23,10 @@ same-length c = search needs
 
 returns : tie.Need-returns
 unfolding refusalLineOf
-returns c = then (c .before .before .before .before .before .before .before .put .ensures) (c .before .before .put-field .ensures .0)
+returns c =
+    let v = c .before .before .before .before .before .before .before .put .ensures in
+    let w = c .before .before .put-field .ensures in
+    (then v (w .0), omega (arith, v .ends, w .1))
 
 pub put-refusal-spec : {M : Type 1} → statement M
 put-refusal-spec =

@@ -110,13 +110,17 @@ whole c =
     let e : l .i ≡ a .n = omega (arith, c .before .before .before .before .before .before .before .before .loop-test .left, l .inv .0) in
     subst (λ (x : List ℕ). Wrote (a .output .now) 0 x (w .last .0) (w .result))
     (text-is (rowNumber r) (rowValue r) (l .i) (a .n) (l .faults) (a .met) (a .ending) e (l .inv .3))
-    (then (then (then (h .ensures .0) (l .inv .4)) (k .ensures .0)) (w .ensures))
+    (then (then (then (h .ensures .0) (l .inv .4)) (k .ensures .0)) (w .ensures .0))
 
 same-length : tie.Need-same-length Inv-loop μ-loop
 same-length c = wrote-length (whole c)
 
 returns : tie.Need-returns Inv-loop μ-loop
-returns c = whole c
+returns c =
+    let l = c .before .before .before .before .before .before .before .before .before .loop .inv in
+    let k = c .before .before .before .before .before .before .put-chain .ensures .1 in
+    let w = c .before .before .put-faults .ensures .1 in
+    (whole c, omega (arith, l .0, l .2, k, w))
 
 pub put-report-spec : {M : Type 1} → statement M
 put-report-spec =

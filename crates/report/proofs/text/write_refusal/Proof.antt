@@ -26,7 +26,7 @@ returns c =
     let a = c .before .before .before .before .before .before .before .args in
     let p = c .before .before .before .put-refusal in
     let t = refusalLineOf (c .before .before .before .before .before .number .result) in
-    let s = too-short t (a .output .now) (p .last .0) (p .result) (p .ensures) (c .if1 .taken) in
+    let s = too-short t (a .output .now) (p .last .0) (p .result) (p .ensures .0) (c .if1 .taken) in
     rw (← c .before .before .before .before .before .number .ensures) (s .0, (s .1, tt))
 
 put-refusal-requires-2 : tie.Need-put-refusal-requires-2
@@ -41,10 +41,10 @@ returns-2 c =
     let p = c .before .before .before .before .before .before .before .put-refusal in
     let q = c .before .before .put-refusal2 in
     let t = refusalLineOf (c .before .before .before .before .before .before .before .before .before .number .result) in
-    let s = long-enough t (a .output .now) (p .last .0) (p .result) (p .ensures) (c .before .before .before .before .if1 .left) (q .last .0) (q .result) (q .ensures) in
-    let first = p .ensures .ends in
-    let second = q .ensures .ends in
-    rw (← c .before .before .before .before .before .before .before .before .before .number .ensures) (s .0, (s .1, omega arith))
+    let s = long-enough t (a .output .now) (p .last .0) (p .result) (p .ensures .0) (c .before .before .before .before .if1 .left) (q .last .0) (q .result) (q .ensures .0) in
+    let first = p .ensures .0 .ends in
+    let second = q .ensures .0 .ends in
+    rw (← c .before .before .before .before .before .before .before .before .before .number .ensures) (s .0, (s .1, (omega arith, omega (arith, q .ensures .1))))
 
 pub write-refusal-spec : {M : Type 1} → statement M
 write-refusal-spec =

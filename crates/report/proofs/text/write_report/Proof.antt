@@ -23,7 +23,7 @@ returns c =
     let a = c .before .before .before .before .before .before .before .args in
     let p = c .before .before .before .put-report in
     let t = textOf (rowNumber (a .rows .now)) (rowValue (a .rows .now)) (a .n) (a .met) (a .ending) in
-    let s = too-short t (a .output .now) (p .last .0) (p .result) (p .ensures) (c .if1 .taken) in
+    let s = too-short t (a .output .now) (p .last .0) (p .result) (p .ensures .0) (c .if1 .taken) in
     (s .0, (s .1, tt))
 
 put-report-requires-2 : tie.Need-put-report-requires-2
@@ -38,10 +38,10 @@ returns-2 c =
     let p = c .before .before .before .before .before .before .before .put-report in
     let q = c .before .before .put-report2 in
     let t = textOf (rowNumber (a .rows .now)) (rowValue (a .rows .now)) (a .n) (a .met) (a .ending) in
-    let s = long-enough t (a .output .now) (p .last .0) (p .result) (p .ensures) (c .before .before .before .before .if1 .left) (q .last .0) (q .result) (q .ensures) in
-    let first = p .ensures .ends in
-    let second = q .ensures .ends in
-    (s .0, (s .1, omega arith))
+    let s = long-enough t (a .output .now) (p .last .0) (p .result) (p .ensures .0) (c .before .before .before .before .if1 .left) (q .last .0) (q .result) (q .ensures .0) in
+    let first = p .ensures .0 .ends in
+    let second = q .ensures .0 .ends in
+    (s .0, (s .1, (omega arith, omega (arith, q .ensures .1))))
 
 pub write-report-spec : {M : Type 1} → statement M
 write-report-spec =
