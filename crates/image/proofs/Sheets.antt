@@ -165,6 +165,15 @@ opened-law s h r g e = go (shaped s) (lawful (sheetOf s)) (lengthsRight (sheetOf
     go true false c l f = absurd (let z : _≡_ {A = ℕ} 0 1 = cc in omega arith)
     go false b c l f = absurd (let z : _≡_ {A = ℕ} 0 1 = cc in omega arith)
 
+-- a sheet that opens is 48 bytes long
+pub opened-long : (s : List ℕ) (h r : ℕ) (g : Sheet) → openedOf s h r ≡ Image g → length s ≡ 48
+unfolding openedOf
+opened-long s h r g e = go (shaped s) refl e
+  where
+    go : (a : Bool) → shaped s ≡ a → pick a (numbered (sheetOf s) h r) (Refused BadSheet) ≡ Image g → length s ≡ 48
+    go true q f = shaped-long s q
+    go false q f = absurd (let z : _≡_ {A = ℕ} 0 1 = cc in omega arith)
+
 -- a sheet that opens, with a log, is lawful
 pub logged-law : (s : List ℕ) (h r l : ℕ) (g : Sheet) → openedWithLog s h r l ≡ Image g → Lawful g
 unfolding openedWithLog

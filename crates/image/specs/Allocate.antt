@@ -7,7 +7,7 @@ use lib.ListN.{length}
 use lib.Seq.{sets}
 use Rattle.words.specs.Run.{pick}
 use Rattle.tags.specs.Tag.{patternOf}
-use Rattle.tags.specs.Chunk.{tagAt, grantedChunk}
+use Rattle.tags.specs.Chunk.{tagAt, grantedChunk, LawfulGrant}
 use Rattle.tags.specs.Judge.{freeVerdict}
 use Rattle.tags.specs.declared.tag.Pattern.{Pattern}
 use Rattle.tags.specs.declared.tag.Pattern.the-variants as pattern
@@ -15,7 +15,7 @@ use Rattle.tags.specs.declared.chunk.Grant.{Grant}
 use Rattle.tags.specs.declared.chunk.Grant.the-variants.{Whole, Sized}
 use Rattle.tags.specs.declared.verdict.Verdict.{Verdict}
 use Rattle.tags.specs.declared.verdict.Verdict.the-variants as verdict
-use Rattle.image.specs.Areas.{Areas, Result, refusedWith, withHead, stamped}
+use Rattle.image.specs.Areas.{Areas, Ready, Result, refusedWith, withHead, stamped}
 use Rattle.image.specs.Place.{placeOf}
 use Rattle.image.specs.Record.{recordSize, addressWord}
 use Rattle.image.specs.Walk.{nextWord}
@@ -97,3 +97,13 @@ allocateBy a q uptime thread (Refused why) = refusedWith (allocated.Refused why)
 
 unfoldable pub allocateOf : Areas → Grant → ℕ → ℕ → Result Allocated
 allocateOf a q uptime thread = allocateBy a q uptime thread (allocatePlan a q)
+
+-- ---- what is known of a buffer that is taken, in areas of s, h and r bytes
+
+pub record Takes (s h r : ℕ) (q : Grant) (p : Spot) : Type 0 where
+  pub ready : Ready s h r (p .sheet) (p .buffer) (p .own)
+  pub granted : LawfulGrant (p .sheet .size) q
+
+abbrev pub TakenIf : ℕ → ℕ → ℕ → Grant → AllocatePlan → Type 0
+TakenIf s h r q (Take p) = Takes s h r q p
+TakenIf s h r q (Refused why) = Unit {0}

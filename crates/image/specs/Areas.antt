@@ -1,14 +1,20 @@
 -- The three areas that a call is lent, and what a call leaves in them. Assumes nothing.
+use mathlib.Core.Path.{_≡_}
 use mathlib.Core.List.{List, _++_}
-use Prim.Native.Nat.{ℕ, _+_, _*_}
+use Prim.Native.Nat.{ℕ, _+_, _*_, _<_}
 use lib.Seq.{sets}
 use Rattle.words.specs.Word.{bytesOf}
 use Rattle.image.specs.Record.{recordSize, stampHighAt}
+use Rattle.image.specs.Sheet.{Open}
+use Rattle.image.specs.declared.sheet.Sheet.{Sheet}
 
 pub record Areas : Type 0 where
   pub sheet : List ℕ
   pub heap : List ℕ
   pub records : List ℕ
+
+abbrev pub areas : List ℕ → List ℕ → List ℕ → Areas
+areas sheet heap records = record { sheet = sheet; heap = heap; records = records }
 
 -- what a call answers, and the areas afterwards
 pub record Result (A : Type 0) : Type 0 where
@@ -30,3 +36,11 @@ withHead sheet head = sets sheet headAt (bytesOf 4 head)
 -- "Both write timestamp (high four bytes 0, low four the uptime) and thread in the record.", in record j
 unfoldable pub stamped : List ℕ → ℕ → ℕ → ℕ → List ℕ
 stamped records j uptime thread = sets records (j * recordSize + stampHighAt) (bytesOf 4 0 ++ bytesOf 4 uptime ++ bytesOf 4 thread)
+
+-- ---- what a plan promises to who carries it out: all that is written for buffer i and record j lies in the areas, of s, h and r bytes
+
+pub record Ready (s h r : ℕ) (g : Sheet) (i j : ℕ) : Type 0 where
+  pub long : s ≡ 48
+  pub opened : Open h r g
+  pub buffer : i < g .count
+  pub own : j < g .count

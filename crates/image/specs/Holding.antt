@@ -5,7 +5,7 @@ use lib.Dec.{eqb}
 use lib.ListN.{length}
 use Rattle.words.specs.Run.{pick}
 use Rattle.tags.specs.Tag.{patternOf}
-use Rattle.tags.specs.Chunk.{tagAt}
+use Rattle.tags.specs.Chunk.{tagAt, LawfulGrant}
 use Rattle.tags.specs.Judge.{allocatedVerdict}
 use Rattle.tags.specs.declared.tag.Pattern.{Pattern}
 use Rattle.tags.specs.declared.tag.Pattern.the-variants as pattern
@@ -13,7 +13,7 @@ use Rattle.tags.specs.declared.chunk.Grant.{Grant}
 use Rattle.tags.specs.declared.chunk.Grant.the-variants.{Whole, Sized}
 use Rattle.tags.specs.declared.verdict.Verdict.{Verdict}
 use Rattle.tags.specs.declared.verdict.Verdict.the-variants as verdict
-use Rattle.image.specs.Areas.{Areas}
+use Rattle.image.specs.Areas.{Areas, Ready}
 use Rattle.image.specs.Place.{placeOf}
 use Rattle.image.specs.Record.{recordSize, addressWord}
 use Rattle.image.specs.Sheet.{openedOf, onOpened}
@@ -75,3 +75,13 @@ clientSize g (Sized s) = s
 -- where they start in the heap
 abbrev pub clientAt : Holding → ℕ
 clientAt h = h .buffer * h .sheet .chunk
+
+-- ---- what is known of a buffer that is held, in areas of s, h and r bytes
+
+pub record Holds (s h r : ℕ) (p : Holding) : Type 0 where
+  pub ready : Ready s h r (p .sheet) (p .buffer) (p .own)
+  pub granted : LawfulGrant (p .sheet .size) (p .grant)
+
+abbrev pub HeldIf : ℕ → ℕ → ℕ → Held → Type 0
+HeldIf s h r (Buffer p) = Holds s h r p
+HeldIf s h r (Refused why) = Unit {0}

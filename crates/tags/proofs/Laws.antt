@@ -10,7 +10,7 @@ use borrow.Author.Tests.{le-leb, leb-true}
 use lib.Arith.{bin-ind}
 use lib.Bits.{bitXor, differ, xor-step, xor-shr, xor-mod}
 use lib.Dec.{eqb, leb}
-use lib.ListN.{length, set, length-append, length-set}
+use lib.ListN.{length, getD, set, length-append, length-set}
 use lib.Seq.{sets}
 use Rattle.words.specs.Word.{part, bytesOf}
 use Rattle.words.specs.Run.{pick, repeated, difference}
@@ -20,12 +20,13 @@ use Rattle.words.proofs.Laws.{sets-then, sets-whole, length-bytesOf, length-rep
 use Rattle.tags.specs.Tag.{tagOf, patternOf, patternWord, stateWord, statePattern}
 use Rattle.tags.specs.SizeCode.{codeOf, decodedOf}
 use Rattle.tags.specs.Chunk.{redzone, guard, bufferSize, chunkOf, freeChunk, grantedChunk}
-use Rattle.tags.specs.Judge.{zoneVerdict}
+use Rattle.tags.specs.Judge.{ifDiffers, r1Of, ofCode, zoneAfter, zoneVerdict, sizedVerdict, allocatedVerdict}
 use Rattle.tags.specs.declared.tag.State.{State}
+use Rattle.tags.specs.declared.size_code.Decoded.{Decoded}
 use Rattle.tags.specs.declared.size_code.Decoded.the-variants.{Size, Bad}
 use Rattle.tags.specs.declared.chunk.Grant.{Grant}
 use Rattle.tags.specs.declared.verdict.Verdict.{Verdict}
-use Rattle.tags.specs.declared.verdict.Verdict.the-variants.{Free, Whole, Allocated, Overrun}
+use Rattle.tags.specs.declared.verdict.Verdict.the-variants.{Whole, Allocated, Overrun}
 use Rattle.tags.specs.declared.tag.State.the-variants as state
 use Rattle.tags.specs.declared.chunk.Grant.the-variants as grant
 
@@ -147,3 +148,27 @@ zone-sound c w v d e g = rw (← repeated-once w, ← e, g)
 pub guarded-zone : bytesOf 4 0xbbedface ≡ set (bytesOf 4 redzone) 0 guard
 unfolding bytesOf
 guarded-zone = refl
+
+-- a verdict of so many bytes allocated is one of the buffer's sizes
+zone-within : (c zone : List ℕ) (v : Verdict) (s : ℕ) → zoneVerdict c zone v ≡ Allocated s → v ≡ Allocated s
+unfolding zoneVerdict
+zone-within c zone v s e = go (difference (part c (bufferSize c) 4) zone) e
+  where
+    go : (d : Difference) → ifDiffers d (λ o. Overrun (bufferSize c + o)) v ≡ Allocated s → v ≡ Allocated s
+    go (At o) f = absurd (let z : _≡_ {A = ℕ} 0 1 = cc in omega arith)
+    go Nowhere f = f
+
+pub allocated-within : (c : List ℕ) (s : ℕ) → allocatedVerdict c ≡ Allocated s → (1 ≤ s) × (s ≤ bufferSize c)
+unfolding allocatedVerdict sizedVerdict
+allocated-within c s e = go (eqb (r1Of c) redzone) (decodedOf (r1Of c) (bufferSize c)) refl e
+  where
+    sized : (k : ℕ) (b : Bool) → pick b (zoneVerdict c (zoneAfter k (bufferSize c)) (Allocated k)) (Overrun k) ≡ Allocated s → k ≡ s
+    sized k true f = let z = zone-within c (zoneAfter k (bufferSize c)) (Allocated k) s f in cc
+    sized k false f = absurd (let z : _≡_ {A = ℕ} 0 1 = cc in omega arith)
+
+    go : (b : Bool) (d : Decoded) → decodedOf (r1Of c) (bufferSize c) ≡ d
+        → pick b (zoneVerdict c (bytesOf 4 redzone) Whole) (ofCode d (λ k. pick (eqb (getD c k 0) guard) (zoneVerdict c (zoneAfter k (bufferSize c)) (Allocated k)) (Overrun k))) ≡ Allocated s
+        → (1 ≤ s) × (s ≤ bufferSize c)
+    go true d q f = absurd (let w = zone-within c (bytesOf 4 redzone) Whole s f in let z : _≡_ {A = ℕ} 0 1 = cc in omega arith)
+    go false (Size k) q f = let z : k ≡ s = sized k (eqb (getD c k 0) guard) f in decoded-within (r1Of c) (bufferSize c) s (q ∙ ap Size z)
+    go false Bad q f = absurd (let z : _≡_ {A = ℕ} 0 1 = cc in omega arith)
