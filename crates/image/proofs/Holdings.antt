@@ -1,18 +1,22 @@
 -- What is known of a buffer that is held. Assumes nothing.
 use mathlib.Core.Path.{_≡_, refl, ap, subst}
 use mathlib.Core.List.{List}
-use Prim.Native.Nat.{ℕ, _≤_, _<_}
+use Prim.Native.Nat.{ℕ, _+_, _≤_, _<_}
 use native.Mathlib.Omega.{arith}
 use Rattle.tags.specs.Chunk.{bufferSize, LawfulGrant}
 use Rattle.tags.specs.Judge.{allocatedVerdict}
 use Rattle.tags.specs.declared.tag.Pattern.{Pattern}
 use Rattle.tags.specs.declared.tag.Pattern.the-variants as pattern
+use Rattle.tags.specs.declared.chunk.Grant.{Grant}
+use Rattle.tags.specs.declared.chunk.Grant.the-variants as grant
 use Rattle.tags.specs.declared.verdict.Verdict.{Verdict}
 use Rattle.tags.specs.declared.verdict.Verdict.the-variants.{Free, Whole, Allocated, NotOneRecord, BadTag, FreedTwice, OffChain, OnChain, BadFill, BadRedzone, BadSizeCode, Overrun}
 use Rattle.tags.proofs.Laws.{allocated-within}
 use Rattle.image.specs.Areas.{Ready}
-use Rattle.image.specs.Holding.{heldAs, heldBy, HeldIf}
+use Rattle.image.specs.Holding.{heldAs, heldBy, HeldIf, Holds, clientSize, clientAt}
 use Rattle.image.specs.declared.sheet.Sheet.{Sheet}
+use Rattle.image.specs.declared.holding.Holding.{Holding}
+use Rattle.image.proofs.Sheets.{chunk-inside, chunk-small}
 
 module _ (s h r : ℕ) (g : Sheet) (i j : ℕ) (ready : Ready s h r g i j) where
   held-as-if : (v : Verdict) → ((k : ℕ) → v ≡ Allocated k → (1 ≤ k) × (k ≤ g .size)) → HeldIf s h r (heldAs v g i j)
@@ -35,3 +39,27 @@ module _ (s h r : ℕ) (g : Sheet) (i j : ℕ) (ready : Ready s h r g i j) where
   held-by-if c pattern.Free e = tt
   held-by-if c pattern.Allocated e =
       held-as-if (allocatedVerdict c) (λ k q. let w = allocated-within c k q in (w .0, subst (λ (n : ℕ). k ≤ n) e (w .1)))
+
+-- ---- where the client's bytes lie
+
+size-within : (g : Sheet) (q : Grant) → LawfulGrant (g .size) q → clientSize g q ≤ g .size
+size-within g grant.Whole w = omega arith
+size-within g (grant.Sized k) w = w .1
+
+-- the client's bytes lie in the heap, and are few
+pub record Client (h : ℕ) (p : Holding) : Type 0 where
+  pub inside : clientAt p + clientSize (p .sheet) (p .grant) ≤ h
+  pub few : clientSize (p .sheet) (p .grant) ≤ 4096
+  pub small : clientAt p + p .sheet .chunk ≤ 65536
+
+pub client-inside : (s h r : ℕ) (p : Holding) → Holds s h r p → Client h p
+client-inside s h r p k =
+    let g = p .sheet in
+    let law = k .ready .opened .law in
+    let w = size-within g (p .grant) (k .granted) in
+    let m = law .most in
+    let e = law .chunks in
+    let a = chunk-inside g law (p .buffer) (k .ready .buffer) in
+    let b = chunk-small g law (p .buffer) (k .ready .buffer) in
+    let l = k .ready .opened .heapLong in
+    record { inside = omega arith; few = omega arith; small = b }

@@ -20,3 +20,8 @@ shownOf a address = shownBy (heldOf a address)
 abbrev pub shownPart : List ℕ → Shown → List ℕ
 shownPart heap (Client at len) = part heap at len
 shownPart heap (Refused why) = []
+
+-- what is known of an answer: the bytes lie in a heap of h bytes, and are few
+abbrev pub ShownIf : ℕ → Shown → Type 0
+ShownIf h (Client at len) = (at + len ≤ h) × (len ≤ 4096)
+ShownIf h (Refused why) = Unit {0}

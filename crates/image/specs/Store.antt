@@ -1,6 +1,6 @@
 -- "Store writes bytes at an offset in an allocated buffer." Assumes nothing.
 use mathlib.Core.List.{List}
-use Prim.Native.Nat.{ℕ, _+_}
+use Prim.Native.Nat.{ℕ, _+_, _≤_}
 use lib.Dec.{leb}
 use lib.ListN.{length}
 use lib.Seq.{sets}
@@ -32,3 +32,8 @@ storeBy a offset bytes (held.Refused why) = refusedWith (Refused why) a
 
 unfoldable pub storeOf : Areas → ℕ → ℕ → List ℕ → Result Outcome
 storeOf a address offset bytes = storeBy a offset bytes (storePlan a address offset (length bytes))
+
+-- what is known of a plan: the bytes lie in a heap of h bytes
+abbrev pub StoreIf : ℕ → ℕ → ℕ → Held → Type 0
+StoreIf h offset len (held.Buffer p) = (clientAt p + offset + len ≤ h) × (clientAt p + p .sheet .chunk ≤ 65536)
+StoreIf h offset len (held.Refused why) = Unit {0}

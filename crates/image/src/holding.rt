@@ -6,7 +6,7 @@ ghost use Rattle.tags.specs.Tag.{patternOf};
 ghost use Rattle.tags.specs.Chunk.{ChunkLength, tagAt};
 ghost use Rattle.image.specs.Areas.{areas};
 ghost use Rattle.image.specs.Sheet.{Open};
-ghost use Rattle.image.specs.Holding.{heldAs, heldBy, heldChunk, heldAt, heldOf, HeldIf};
+ghost use Rattle.image.specs.Holding.{heldAs, heldBy, heldChunk, heldAt, heldOf, HeldIf, clientSize};
 use crate::place;
 use crate::place::Place;
 use crate::record;
@@ -124,5 +124,15 @@ pub(crate) fn hold(sheet: &[u8], heap: &[u8], records: &[u8], address: u32) -> H
     match opened {
         Opened::Refused(why) => Held::Refused(why),
         Opened::Image(g) => held_at(heap, records, g, address),
+    }
+}
+
+// How many bytes of its buffer a client has.
+pub(crate) fn client_size(g: Sheet, grant: Grant) -> usize
+    ensures { λ r. ⌜ r ≡ clientSize g grant ⌝ }
+{
+    match grant {
+        Grant::Whole => g.size,
+        Grant::Sized(s) => s as usize,
     }
 }

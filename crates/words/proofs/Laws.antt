@@ -13,7 +13,7 @@ use borrow.Author.Tests.{eq-eqb, ne-eqb}
 use lib.Arith.{digits-lt, mod-mul}
 use lib.Dec.{lit<, eqb}
 use lib.ListN.{length, take, drop, getD, set, length-take, length-drop, length-append, List·getD-append, List·getD-eq-default}
-use lib.Seq.{sets, sets-eq, take-take, take-length, drop-drop, drop-append-le, drop-append-add, take-append-le, take-append-seam, drop-at, length-take-le, drop-set-add, take-set-le, take-set-lt, drop-set-lt, drop-cons, getD-take, getD-drop, getD-at}
+use lib.Seq.{sets, sets-eq, take-take, take-suc, take-length, drop-drop, drop-append-le, drop-append-add, take-append-le, take-append-seam, drop-at, length-take-le, drop-set-add, take-set-le, take-set-lt, drop-set-lt, drop-cons, getD-take, getD-drop, getD-at}
 use Rattle.words.specs.Word.{part, number, bytesOf, numberAt, AreBytes}
 use Rattle.words.specs.Run.{pick, repeated, differenceFrom, difference}
 use Rattle.words.specs.declared.run.Difference.{Difference}
@@ -81,6 +81,11 @@ sets-append l at (x ∷ xs) ys =
 pub sets-then : (l : List ℕ) (at n e : ℕ) (xs ys : List ℕ) → length xs ≡ n → at + n ≡ e → sets (sets l at xs) e ys ≡ sets l at (xs ++ ys)
 sets-then l at n e xs ys len eq =
     ap (λ (k : ℕ). sets (sets l at xs) k ys) (sym eq ∙ ap (λ (k : ℕ). at + k) (sym len)) ∙ sets-append l at xs ys
+
+-- one byte more of a run
+pub sets-more : (l : List ℕ) (at : ℕ) (vs : List ℕ) (k : ℕ) → k < length vs → set (sets l at (take k vs)) (at + k) (getD vs k 0) ≡ sets l at (take (k + 1) vs)
+sets-more l at vs k h =
+    sets-then l at k (at + k) (take k vs) (getD vs k 0 ∷ []) (length-take-le k vs (omega arith)) refl ∙ rw (add-one, take-suc vs k 0 h)
 
 -- a list that is written over whole
 pub sets-whole : (l vs : List ℕ) → length vs ≡ length l → sets l 0 vs ≡ vs
