@@ -1,3 +1,7 @@
 pub mod Runs
 pub mod Chunks
 pub mod Sheets
+pub mod Counts
+pub mod State
+pub mod Found
+pub mod Calls
