@@ -48,7 +48,7 @@ pub client-size : (g : Sheet) (q : Grant) → clientSize g q ≡ grantSize (g .s
 client-size g grant.Whole = refl
 client-size g (grant.Sized s) = refl
 
-none-out : (o : Option Loan) → outs o ≡ 0 → o ≡ none
+pub none-out : (o : Option Loan) → outs o ≡ 0 → o ≡ none
 none-out none e = refl
 none-out (some o) e = absurd (omega arith)
 
@@ -67,10 +67,10 @@ module _ (g : Sheet) (laid : Laid g) where
   buffer-place j h w e = place-at (g .heap) (g .chunk) (g .count) w j (chunk-some g laid) h e
 
   module _ {head : ℕ} {a : Areas} {out : ℕ → Option Loan} {chain : List ℕ} (v : Holds g head a out chain) where
-    chunk-is : (j : ℕ) → j < g .count → (o : Option Loan) → out (bufferAddress g j) ≡ o → chunkAt g (a .heap) j ≡ chunkFor (g .size) (recordAddress g j) o
+    pub chunk-is : (j : ℕ) → j < g .count → (o : Option Loan) → out (bufferAddress g j) ≡ o → chunkAt g (a .heap) j ≡ chunkFor (g .size) (recordAddress g j) o
     chunk-is j h o e = v .chunks j h ∙ ap (chunkFor (g .size) (recordAddress g j)) e
 
-    loan-is : (j : ℕ) → j < g .count → (o : Option Loan) → out (bufferAddress g j) ≡ o → LawfulLoan (g .size) o
+    pub loan-is : (j : ℕ) → j < g .count → (o : Option Loan) → out (bufferAddress g j) ≡ o → LawfulLoan (g .size) o
     loan-is j h o e = subst (LawfulLoan (g .size)) e (v .loans j h)
 
     -- ---- what free, store and show find

@@ -5,3 +5,7 @@ pub mod Counts
 pub mod State
 pub mod Found
 pub mod Calls
+pub mod Keeps
+pub mod Start
+pub mod Always
+pub mod Theorem
