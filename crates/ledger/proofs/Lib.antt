@@ -9,3 +9,4 @@ pub mod Keeps
 pub mod Start
 pub mod Always
 pub mod Theorem
+pub mod Examples
