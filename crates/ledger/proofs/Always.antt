@@ -3,28 +3,27 @@ use mathlib.Core.Path.{_≡_, refl, sym, ap, _∙_, subst}
 use mathlib.Core.Bool.{Bool, true, false}
 use mathlib.Core.List.{List, [], _∷_}
 use mathlib.Core.Option.{Option, none, some}
-use Prim.Native.Nat.{ℕ, zero, suc, _+_, _*_, _≤_, _<_}
+use Prim.Native.Nat.{ℕ, _+_, _<_}
 use native.Mathlib.Omega.{arith}
 use borrow.Author.Tests.{leb-true}
 use lib.Dec.{leb}
 use lib.ListN.{length}
 use Rattle.tags.specs.declared.chunk.Grant.{Grant}
-use Rattle.image.specs.Areas.{Areas, Result}
 use Rattle.image.specs.Place.{placeOf}
 use Rattle.image.specs.Walk.{nextWord}
 use Rattle.image.specs.Judge.{bufferAddress, recordAddress}
 use Rattle.image.specs.Layout.{laidAreas}
 use Rattle.image.specs.Allocate.{lawfulSize}
 use Rattle.image.specs.Free.{sameGrant}
+use Rattle.image.specs.Store.{storedAreas}
 use Rattle.image.specs.declared.sheet.Sheet.{Sheet}
 use Rattle.image.specs.declared.place.Place.{Place}
 use Rattle.image.specs.declared.place.Place.the-variants as place
-use Rattle.image.specs.declared.allocate.Allocated.the-variants as allocated
 use Rattle.image.proofs.Places.{address-one, place-found}
-use Rattle.ledger.specs.Ledger.{Loan, Ledger, Call, allocate, free, store, put, grantSize, fresh, laidOver, World, opened, step, run}
+use Rattle.ledger.specs.Ledger.{Loan, Call, allocate, free, store, put, grantSize, fresh, laidOver, World, opened, step, run}
 use Rattle.ledger.proofs.Counts.{total, total-change, total-none, put-same, put-other, range}
 use Rattle.ledger.proofs.State.{Laid, outs, Holds, chunk-some}
-use Rattle.ledger.proofs.Calls.{taken-below, taken-in, allocate-unlawful, allocate-none, allocate-some, free-done, free-other, free-in, free-stray, store-done, store-past, store-in, store-stray}
+use Rattle.ledger.proofs.Calls.{hold, taken-below, taken-in, allocate-unlawful, allocate-none, allocate-some, free-done, free-other, free-in, free-stray, store-done, store-past, store-in, store-stray}
 use Rattle.ledger.proofs.Keeps.{lawful-grant, granted-holds, freed-holds, stored-holds}
 use Rattle.ledger.proofs.Start.{laid-holds}
 
@@ -116,12 +115,22 @@ module _ (g : Sheet) (laid : Laid g) where
           → (b : Bool) → leb (offset + length bytes) (grantSize (g .size) (o .grant)) ≡ b
           → Fine g (step (g .size) (store (bufferAddress g j) offset bytes) w)
       go j h o e true s =
-          rw (store-done g laid (f .holds) j h o e offset bytes s, e)
+          rw (store-done g laid (f .holds) j h o e offset bytes s)
           (record {
             head = f .head;
             chain = f .chain;
-            holds = stored-holds g laid j o offset bytes (f .holds) h e (leb-true (offset + length bytes) (grantSize (g .size) (o .grant)) s);
-            books = omega (arith, f .books, count-put j h (laidOver offset bytes (some o)) (w .ledger .out), ap outs e);
+            holds = subst
+                (λ (x : Option Loan). Holds g (f .head) (storedAreas (w .areas) offset bytes (hold g laid (f .head) j (o .grant)))
+                (put (bufferAddress g j) (laidOver offset bytes x) (w .ledger .out)) (f .chain))
+                (sym e)
+                (stored-holds g laid j o offset bytes (f .holds) h e (leb-true (offset + length bytes) (grantSize (g .size) (o .grant)) s));
+            books = omega (
+              arith,
+              f .books,
+              count-put j h (laidOver offset bytes (w .ledger .out (bufferAddress g j))) (w .ledger .out),
+              ap outs e,
+              ap (λ (x : Option Loan). outs (laidOver offset bytes x)) e,
+            );
           })
       go j h o e false s = rw (store-past g laid (f .holds) j h o e offset bytes s) f
 

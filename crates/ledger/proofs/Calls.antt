@@ -1,23 +1,21 @@
 -- What each call answers and writes where the invariant holds. Assumes nothing.
 use mathlib.Core.Path.{_≡_, refl, sym, ap, _∙_, subst}
-use mathlib.Core.Logic.{_≢_}
-use mathlib.Core.Bool.{Bool, true, false}
+use mathlib.Core.Bool.{true, false}
 use mathlib.Core.List.{List, [], _∷_}
 use mathlib.Core.Option.{Option, none, some}
-use Prim.Native.Nat.{ℕ, zero, suc, _+_, _*_, _≤_, _<_}
+use Prim.Native.Nat.{ℕ, _+_, _*_, _<_}
 use native.Mathlib.Nat.{add-zero}
 use native.Mathlib.Omega.{arith}
 use borrow.Author.Tests.{eq-eqb, ne-eqb}
-use lib.Dec.{eqb, leb}
+use lib.Dec.{leb}
 use lib.ListN.{length}
 use Rattle.words.specs.Word.{part}
 use Rattle.words.proofs.Laws.{part-part}
 use Rattle.tags.specs.declared.chunk.Grant.{Grant}
 use Rattle.tags.specs.declared.chunk.Grant.the-variants as grant
-use Rattle.image.specs.Areas.{Areas, Result, refusedWith}
+use Rattle.image.specs.Areas.{Areas, refusedWith}
 use Rattle.image.specs.Place.{placeOf}
 use Rattle.image.specs.Record.{recordSize, addressWord}
-use Rattle.image.specs.Chain.{occ}
 use Rattle.image.specs.Judge.{bufferAddress, recordAddress, chunkAt}
 use Rattle.image.specs.Allocate.{lawfulSize, takenChunk, takenHead, takenOf, allocatePlan, grantedAreas, allocateOf}
 use Rattle.image.specs.Holding.{holding, heldAs, heldChunk, heldAt, heldOf, clientSize}

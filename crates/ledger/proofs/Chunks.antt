@@ -1,32 +1,29 @@
 -- What a chunk says, free or granted, with any client bytes laid over its start: proved once over the buffer size. Assumes nothing.
-use mathlib.Core.Path.{_≡_, refl, sym, ap, ap₂, _∙_, subst}
-use mathlib.Core.Logic.{_≢_, _⊎_, inl, inr}
-use mathlib.Core.Bool.{Bool, true, false}
+use mathlib.Core.Path.{_≡_, refl, sym, ap, _∙_}
+use mathlib.Core.Logic.{_≢_, inr}
 use mathlib.Core.List.{List, [], _∷_, _++_, append-assoc}
 use mathlib.Core.Option.{Option, none, some}
-use Prim.Native.Nat.{ℕ, zero, suc, _+_, _-_, _*_, _%_, _≤_, _<_}
+use Prim.Native.Nat.{ℕ, _+_, _-_, _%_, _≤_, _<_}
 use native.Mathlib.Nat.{add-zero}
 use native.Mathlib.Decide.{ℕ-discrete}
 use native.Mathlib.Omega.{arith}
 use borrow.Author.Tests.{eq-eqb, ne-eqb}
-use lib.Bits.{bitXor, xor-lt}
-use lib.Dec.{eqb, lit<}
+use lib.Bits.{xor-lt}
+use lib.Dec.{lit<}
 use lib.ListN.{length, getD, set, length-set, length-append}
 use lib.Seq.{sets, length-sets, getD-set-same}
 use Rattle.words.specs.Word.{part, number, bytesOf, numberAt}
-use Rattle.words.specs.Run.{pick, repeated}
+use Rattle.words.specs.Run.{repeated}
 use Rattle.words.proofs.Laws.{getD-part, part-left, part-right, part-all, part-written, part-before, part-after, part-inside, length-bytesOf, number-bytesOf, numberAt-outside, length-repeated, repeated-more, repeated-once, same-nowhere}
-use Rattle.tags.specs.Tag.{tagOf, stateWord, patternOf, statePattern}
+use Rattle.tags.specs.Tag.{tagOf, stateWord}
 use Rattle.tags.specs.SizeCode.{codeOf}
 use Rattle.tags.specs.Chunk.{redzone, freeFill, grantFill, guard, chunkOf, freeChunk, grantedChunk, tagAt, LawfulGrant}
 use Rattle.tags.specs.Judge.{freeVerdict, allocatedVerdict, sizedVerdict, zoneVerdict, zoneAfter}
 use Rattle.tags.proofs.Laws.{decode-code, length-chunkOf, length-freeChunk, length-grantedChunk}
-use Rattle.tags.specs.declared.tag.Tag.{Tag}
 use Rattle.tags.specs.declared.tag.State.{State}
 use Rattle.tags.specs.declared.tag.State.the-variants as state
 use Rattle.tags.specs.declared.chunk.Grant.{Grant}
 use Rattle.tags.specs.declared.chunk.Grant.the-variants as grant
-use Rattle.tags.specs.declared.verdict.Verdict.{Verdict}
 use Rattle.tags.specs.declared.verdict.Verdict.the-variants.{Free, Whole, Allocated}
 use Rattle.ledger.specs.Ledger.{Loan, grantSize, fresh, laidOver, asGranted}
 use Rattle.ledger.proofs.Runs.{sets-over, sets-same, part-repeated}

@@ -1,8 +1,7 @@
 -- An image of two buffers of 8 bytes, laid out and run by evaluation: the claim is not empty. Assumes nothing.
 use mathlib.Core.Path.{_≡_, refl}
 use mathlib.Core.List.{List, [], _∷_}
-use mathlib.Core.Option.{Option, none, some}
-use Prim.Native.Nat.{ℕ}
+use mathlib.Core.Option.{none, some}
 use lib.Dec.{lit<}
 use lib.ListN.{replicate}
 use Rattle.words.specs.Word.{part, number, bytesOf, numberAt}
@@ -23,7 +22,6 @@ use Rattle.image.specs.Free.{freePlan, freedAreas, freeOf}
 use Rattle.image.specs.Store.{storePlan, storedAreas, storeOf}
 use Rattle.image.specs.declared.refusal.Refusal.the-variants.{NoSuchBuffer, NoRoom, BadSize, OtherGrant}
 use Rattle.image.specs.declared.refusal.Outcome.the-variants as outcome
-use Rattle.image.specs.declared.allocate.Allocated.{Allocated}
 use Rattle.image.specs.declared.allocate.Allocated.the-variants as allocated
 use Rattle.ledger.specs.Ledger.{Call, allocate, free, store, Answer, resultOf, put, World, opened, run, Sound}
 use Rattle.ledger.proofs.Theorem.{theorem}
@@ -87,3 +85,14 @@ evaluated = record {
 sound₀ : Sound (laidSheet 64 4096 8192 8 2) (world₀ calls₀)
 unfolding world₀
 sound₀ = theorem areas₀ 64 4096 8192 8 2 (lit< tt) laid₀ calls₀
+
+-- P12: the fourth allocate in a fresh image of three buffers of 24 bytes
+fresh₃ : List Call → World
+fresh₃ calls = run 24 calls (opened (laidAreas (laidSheet 64 4096 8192 24 3)))
+
+three₃ : List Call
+three₃ = allocate grant.Whole 1 7 ∷ allocate grant.Whole 2 7 ∷ allocate grant.Whole 3 7 ∷ []
+
+P12 : allocateOf (fresh₃ three₃ .areas) grant.Whole 4 7 .answer ≡ allocated.Refused NoRoom
+unfolding fresh₃ three₃ run put laidAreas sheetBytes recordBytes flat linkTo part number bytesOf numberAt repeated differenceFrom tagOf patternWord patternOf codeOf decodedOf chunkOf freeChunk grantedChunk tagAt freeVerdict zoneVerdict sizedVerdict allocatedVerdict stamped fieldIs shaped sheetOf measured numbered openedOf lawful sizesLawful basesLawful placeOf recordWord takenChunk takenHead takenOf allocatePlan grantedAreas allocateOf
+P12 = refl

@@ -1,32 +1,29 @@
 -- What the invariant says of the chain, of each buffer's own record and of its verdict. Assumes nothing.
-use mathlib.Core.Path.{_≡_, refl, sym, ap, _∙_, subst}
+use mathlib.Core.Path.{_≡_, refl, sym, ap, _∙_}
 use mathlib.Core.Logic.{_≢_}
-use mathlib.Core.Bool.{Bool, true, false, not}
+use mathlib.Core.Bool.{false, not}
 use mathlib.Core.List.{List, [], _∷_}
 use mathlib.Core.Option.{Option, none, some}
-use Prim.Native.Nat.{ℕ, zero, suc, _+_, _*_, _≤_, _<_}
+use Prim.Native.Nat.{ℕ, zero, suc, _+_, _≤_, _<_}
 use native.Mathlib.Decide.{ℕ-discrete}
 use native.Mathlib.Omega.{arith}
 use borrow.Author.Tests.{eq-eqb, ne-eqb}
 use lib.Dec.{eqb}
-use lib.ListN.{length}
 use Rattle.tags.specs.Tag.{tagOf, patternOf, statePattern}
 use Rattle.tags.specs.Chunk.{tagAt}
 use Rattle.tags.specs.Verdict.{verdictNumber}
 use Rattle.tags.specs.declared.tag.Tag.{Tag}
-use Rattle.tags.specs.declared.tag.State.the-variants as state
 use Rattle.tags.specs.declared.chunk.Grant.{Grant}
 use Rattle.tags.specs.declared.chunk.Grant.the-variants as grant
 use Rattle.tags.specs.declared.verdict.Verdict.{Verdict}
 use Rattle.tags.proofs.Laws.{tag-pattern}
 use Rattle.image.specs.Areas.{Areas}
 use Rattle.image.specs.Record.{addressWord}
-use Rattle.image.specs.Chain.{Chain, occ}
+use Rattle.image.specs.Chain.{occ}
 use Rattle.image.specs.Pairing.{namers, theOne, ownOf}
-use Rattle.image.specs.Judge.{bufferAddress, recordAddress, chunkAt, chainedVerdict, ownedVerdict, judged, imageChain, verdictOf}
+use Rattle.image.specs.Judge.{bufferAddress, recordAddress, chainedVerdict, ownedVerdict, judged, imageChain, verdictOf}
 use Rattle.image.specs.declared.sheet.Sheet.{Sheet}
 use Rattle.image.specs.declared.chain.Ending.the-variants.{End}
-use Rattle.image.specs.declared.pairing.Own.{Own}
 use Rattle.image.specs.declared.pairing.Own.the-variants.{One}
 use Rattle.image.proofs.Places.{address-one}
 use Rattle.image.proofs.Chains.{linked-chain}
@@ -98,10 +95,10 @@ module _ (g : Sheet) (laid : Laid g) {head : ℕ} {a : Areas} {out : ℕ → Opt
       rw (own-is i h, chain-is, v .chunks i h)
       (owned-for (g .size) (recordAddress g i) (laid .law .most) (record-fits g laid i h) (out (bufferAddress g i)) (v .loans i h) (occ i chain) (v .each i h))
 
-noted-count : (o : Option Loan) (v : Verdict) (k : ℕ) → v ≡ asNoted o → foundAllocated (λ i. v) 1 ≡ outs o
+noted-count : (o : Option Loan) (v : Verdict) → v ≡ asNoted o → foundAllocated (λ i. v) 1 ≡ outs o
 unfolding foundAllocated
-noted-count none v k e = rw e
-noted-count (some o) v k e = rw e (granted-one (o .grant))
+noted-count none v e = rw e
+noted-count (some o) v e = rw e (granted-one (o .grant))
   where
     granted-one : (q : Grant) → foundAllocated (λ i. asGranted q) 1 ≡ 1
     granted-one grant.Whole = refl
@@ -111,4 +108,4 @@ noted-count (some o) v k e = rw e (granted-one (o .grant))
 pub found-count : (v : ℕ → Verdict) (o : ℕ → Option Loan) (n : ℕ) → ((i : ℕ) → i < n → v i ≡ asNoted (o i)) → foundAllocated v n ≡ total (λ i. outs (o i)) n
 unfolding foundAllocated total
 found-count v o zero h = refl
-found-count v o (suc n) h = omega (arith, noted-count (o n) (v n) 0 (h n (omega arith)), found-count v o n (λ i l. h i (omega arith)))
+found-count v o (suc n) h = omega (arith, noted-count (o n) (v n) (h n (omega arith)), found-count v o n (λ i l. h i (omega arith)))

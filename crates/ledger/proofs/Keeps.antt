@@ -1,10 +1,10 @@
 -- An accepted call keeps the invariant. Assumes nothing.
 use mathlib.Core.Path.{_≡_, refl, sym, ap, _∙_, subst}
-use mathlib.Core.Logic.{_≢_, _⊎_, inl, inr}
-use mathlib.Core.Bool.{Bool, true, false, _&&_}
-use mathlib.Core.List.{List, [], _∷_, _++_}
+use mathlib.Core.Logic.{_≢_, inl, inr}
+use mathlib.Core.Bool.{true}
+use mathlib.Core.List.{List, _∷_, _++_}
 use mathlib.Core.Option.{Option, none, some}
-use Prim.Native.Nat.{ℕ, zero, suc, _+_, _*_, _%_, _≤_, _<_}
+use Prim.Native.Nat.{ℕ, _+_, _*_, _%_, _≤_, _<_}
 use native.Mathlib.Nat.{add-zero}
 use native.Mathlib.Omega.{arith}
 use borrow.Author.Tests.{leb-true}
@@ -12,7 +12,7 @@ use lib.Dec.{leb}
 use lib.ListN.{length, length-append}
 use lib.Seq.{sets, length-sets}
 use Rattle.words.specs.Word.{part, number, bytesOf, numberAt}
-use Rattle.words.proofs.Laws.{length-bytesOf, part-written, part-inside, part-place, part-field, numberAt-written, below}
+use Rattle.words.proofs.Laws.{length-bytesOf, part-written, part-inside, part-place, part-field, numberAt-written}
 use Rattle.tags.specs.Chunk.{LawfulGrant, freeChunk, grantedChunk}
 use Rattle.tags.proofs.Laws.{and-true, length-freeChunk, length-grantedChunk}
 use Rattle.tags.specs.declared.chunk.Grant.{Grant}
@@ -33,7 +33,7 @@ use Rattle.ledger.proofs.Chunks.{chunkFor, LawfulLoan, grant-within, fr
 use Rattle.ledger.proofs.Sheets.{sheet-head}
 use Rattle.ledger.proofs.Counts.{at-put, stray-put}
 use Rattle.ledger.proofs.State.{Laid, outs, Holds, chunk-some, first-address, rest-linked, head-fits}
-use Rattle.ledger.proofs.Calls.{spot, hold, taken-below, taken-in, chunk-is, loan-is}
+use Rattle.ledger.proofs.Calls.{spot, hold, taken-below, chunk-is, loan-is}
 
 -- a request of lawful size is a lawful grant
 pub lawful-grant : (size : ℕ) (q : Grant) → lawfulSize q size ≡ true → LawfulGrant size q

@@ -1,18 +1,14 @@
 -- The bytes of a sheet are read back as its numbers, and another head is another sheet. Assumes nothing.
-use mathlib.Core.Path.{_≡_, refl, sym, ap, ap₂, _∙_, subst}
-use mathlib.Core.Bool.{Bool, true, false, _&&_}
-use mathlib.Core.List.{List, [], _∷_, _++_}
-use Prim.Native.Nat.{ℕ, zero, suc, _+_, _*_, _%_, _^_, _≤_, _<_}
+use mathlib.Core.Path.{_≡_, refl, ap, _∙_}
+use mathlib.Core.Bool.{true}
+use mathlib.Core.List.{List}
+use Prim.Native.Nat.{ℕ, _%_, _<_}
 use native.Mathlib.Omega.{arith}
 use borrow.Author.Tests.{eq-eqb}
-use lib.Dec.{eqb}
-use lib.ListN.{length}
-use lib.Seq.{sets}
 use Rattle.words.specs.Word.{part, number, bytesOf, numberAt}
-use Rattle.words.specs.Run.{pick}
 use Rattle.words.proofs.Laws.{number-bytesOf}
 use Rattle.image.specs.Areas.{withHead}
-use Rattle.image.specs.Sheet.{fieldIs, shaped, sheetOf, heapLength, recordsLength, lawful, Lawful, measured, numbered, openedOf}
+use Rattle.image.specs.Sheet.{fieldIs, shaped, sheetOf, heapLength, recordsLength, lawful, measured, numbered, openedOf}
 use Rattle.image.specs.Layout.{sheetBytes}
 use Rattle.image.specs.declared.sheet.Sheet.{Sheet}
 use Rattle.image.specs.declared.sheet.Opened.the-variants.{Image}

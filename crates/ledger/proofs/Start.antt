@@ -1,33 +1,29 @@
 -- The areas as they are laid out have the invariant. Assumes nothing.
 use mathlib.Core.Path.{_≡_, refl, sym, ap, _∙_, subst}
-use mathlib.Core.Logic.{_≢_}
-use mathlib.Core.Bool.{Bool, true, false, _&&_}
-use mathlib.Core.List.{List, [], _∷_, _++_}
-use mathlib.Core.Option.{Option, none, some}
+use mathlib.Core.Bool.{Bool, true, false}
+use mathlib.Core.List.{List, _++_}
+use mathlib.Core.Option.{none, some}
 use Prim.Native.Nat.{ℕ, zero, suc, _+_, _*_, _≤_, _<_}
-use native.Mathlib.Nat.{add-zero}
 use native.Mathlib.Decide.{decLt}
 use native.Mathlib.Omega.{arith}
 use borrow.Author.Tests.{lt-ltb, le-ltb}
-use lib.Dec.{eqb, ltb, lit<}
+use lib.Dec.{eqb, lit<}
 use lib.ListN.{length, replicate, length-append, length-replicate}
 use Rattle.words.specs.Word.{part, number, bytesOf, numberAt}
 use Rattle.words.specs.Run.{pick}
 use Rattle.words.proofs.Laws.{part-part, part-left, part-right, part-all, part-front, length-bytesOf}
 use Rattle.tags.specs.Chunk.{freeChunk}
 use Rattle.tags.proofs.Laws.{length-freeChunk}
-use Rattle.image.specs.Areas.{Areas, Result, refusedWith}
-use Rattle.image.specs.Sheet.{lawful, Lawful, lengthsRight}
-use Rattle.image.specs.Record.{recordSize, recordWord, addressWord}
+use Rattle.image.specs.Areas.{Areas, refusedWith}
+use Rattle.image.specs.Sheet.{lawful, lengthsRight}
+use Rattle.image.specs.Record.{recordWord, addressWord}
 use Rattle.image.specs.Walk.{nextWord, Linked}
 use Rattle.image.specs.Judge.{bufferAddress, recordAddress}
 use Rattle.image.specs.Layout.{flat, linkTo, laidSheet, recordBytes, laidAreas, layOutOf}
 use Rattle.image.specs.declared.sheet.Sheet.{Sheet}
 use Rattle.image.specs.declared.refusal.Refusal.the-variants.{BadSheet, BadNumber, BadLength}
-use Rattle.image.specs.declared.refusal.Outcome.{Outcome}
 use Rattle.image.specs.declared.refusal.Outcome.the-variants.{Done, Refused}
 use Rattle.image.proofs.Sheets.{lawful-known, buffer-word}
-use Rattle.image.proofs.Chains.{occ-none}
 use Rattle.ledger.proofs.Runs.{length-flat, part-flat}
 use Rattle.ledger.proofs.Chunks.{word-back}
 use Rattle.ledger.proofs.Counts.{range, occ-within, occ-above}

@@ -1,11 +1,10 @@
 -- The invariant: what the ledger and a list of records say of the three areas. Assumes nothing.
-use mathlib.Core.Path.{_≡_, refl, sym, ap, _∙_, subst}
+use mathlib.Core.Path.{_≡_}
 use mathlib.Core.Logic.{_≢_}
 use mathlib.Core.Bool.{true}
 use mathlib.Core.List.{List, [], _∷_}
 use mathlib.Core.Option.{Option, none, some}
-use Prim.Native.Nat.{ℕ, zero, suc, _+_, _*_, _≤_, _<_}
-use native.Mathlib.Nat.{lt-of-not-le}
+use Prim.Native.Nat.{ℕ, _+_, _≤_, _<_}
 use native.Mathlib.Decide.{decLt}
 use native.Mathlib.Omega.{arith}
 use lib.ListN.{length}
@@ -13,7 +12,7 @@ use Rattle.words.proofs.Laws.{below}
 use Rattle.image.specs.Areas.{Areas}
 use Rattle.image.specs.Sheet.{heapLength, recordsLength, lawful, Lawful, openedOf}
 use Rattle.image.specs.Place.{placeOf}
-use Rattle.image.specs.Record.{recordSize, addressWord}
+use Rattle.image.specs.Record.{addressWord}
 use Rattle.image.specs.Chain.{occ}
 use Rattle.image.specs.Walk.{nextWord, Linked}
 use Rattle.image.specs.Judge.{bufferAddress, recordAddress, chunkAt}
@@ -22,7 +21,6 @@ use Rattle.image.specs.declared.sheet.Sheet.{Sheet}
 use Rattle.image.specs.declared.sheet.Opened.the-variants.{Image}
 use Rattle.image.specs.declared.place.Place.the-variants.{Nowhere}
 use Rattle.image.proofs.Sheets.{record-word}
-use Rattle.image.proofs.Chains.{occ-here}
 use Rattle.ledger.specs.Ledger.{Loan, headed}
 use Rattle.ledger.proofs.Chunks.{chunkFor, LawfulLoan}
 use Rattle.ledger.proofs.Sheets.{Fits, sheet-opens}

@@ -1,21 +1,20 @@
 -- The theorem: after an accepted lay out and any list of calls the claim holds. Assumes nothing.
-use mathlib.Core.Path.{_≡_, refl, sym, ap, _∙_, subst}
+use mathlib.Core.Path.{_≡_, refl, sym, ap, _∙_}
 use mathlib.Core.Logic.{_≢_, _↔_}
-use mathlib.Core.Bool.{Bool, true, false}
+use mathlib.Core.Bool.{true}
 use mathlib.Core.List.{List, [], _∷_}
 use mathlib.Core.Option.{Option, none, some}
-use Prim.Native.Nat.{ℕ, zero, suc, _+_, _*_, _≤_, _<_}
+use Prim.Native.Nat.{ℕ, _+_, _<_}
 use native.Mathlib.Decide.{decLt}
 use native.Mathlib.Omega.{arith}
 use Rattle.words.specs.Word.{part}
 use Rattle.tags.specs.Verdict.{verdictNumber}
 use Rattle.tags.specs.declared.chunk.Grant.{Grant}
-use Rattle.tags.specs.declared.verdict.Verdict.{Verdict}
 use Rattle.image.specs.Areas.{Areas, Result}
 use Rattle.image.specs.Chain.{Chain, occ}
 use Rattle.image.specs.Pairing.{ownOf}
 use Rattle.image.specs.Judge.{bufferAddress, imageChain, verdictOf}
-use Rattle.image.specs.Layout.{laidSheet, layOutOf}
+use Rattle.image.specs.Layout.{laidSheet}
 use Rattle.image.specs.Allocate.{lawfulSize, allocateOf}
 use Rattle.image.specs.Show.{shownOf}
 use Rattle.image.specs.declared.sheet.Sheet.{Sheet}
@@ -25,7 +24,7 @@ use Rattle.image.specs.declared.allocate.Allocated.{Allocated}
 use Rattle.image.specs.declared.allocate.Allocated.the-variants as allocated
 use Rattle.image.specs.declared.show.Shown.the-variants as shown
 use Rattle.image.proofs.Chains.{occ-none}
-use Rattle.ledger.specs.Ledger.{Loan, World, opened, run, headed, asNoted, foundAllocated, timesMet, isOut, Sound, Claim}
+use Rattle.ledger.specs.Ledger.{Loan, World, headed, timesMet, isOut, Sound, Claim}
 use Rattle.ledger.proofs.State.{Laid, outs, Holds, opens}
 use Rattle.ledger.proofs.Found.{noted-sound, own-is, chain-is, verdict-is, found-count}
 use Rattle.ledger.proofs.Calls.{none-out, taken-below, taken-in, allocate-none, allocate-some, show-out, show-in, client-is}

@@ -19,7 +19,7 @@ use Rattle.tags.specs.declared.verdict.Verdict.{Verdict}
 use Rattle.tags.specs.declared.verdict.Verdict.the-variants as verdict
 use Rattle.image.specs.Areas.{Areas, Result}
 use Rattle.image.specs.Sheet.{openedOf}
-use Rattle.image.specs.Chain.{Chain, occ}
+use Rattle.image.specs.Chain.{occ}
 use Rattle.image.specs.Pairing.{ownOf}
 use Rattle.image.specs.Judge.{bufferAddress, imageChain, verdictOf}
 use Rattle.image.specs.Layout.{laidSheet, layOutOf}
