@@ -1,0 +1,302 @@
+-- What a chunk says, free or granted, with any client bytes laid over its start: proved once over the buffer size. Assumes nothing.
+use mathlib.Core.Path.{_≡_, refl, sym, ap, _∙_}
+use mathlib.Core.Logic.{_≢_, inr}
+use mathlib.Core.List.{List, [], _∷_, _++_, append-assoc}
+use mathlib.Core.Option.{Option, none, some}
+use Prim.Native.Nat.{ℕ, _+_, _-_, _%_, _≤_, _<_}
+use native.Mathlib.Nat.{add-zero}
+use native.Mathlib.Decide.{ℕ-discrete}
+use native.Mathlib.Omega.{arith}
+use borrow.Author.Tests.{eq-eqb, ne-eqb}
+use lib.Bits.{xor-lt}
+use lib.Dec.{lit<}
+use lib.ListN.{length, getD, set, length-set, length-append}
+use lib.Seq.{sets, length-sets, getD-set-same}
+use Rattle.words.specs.Word.{part, number, bytesOf, numberAt}
+use Rattle.words.specs.Run.{repeated}
+use Rattle.words.proofs.Laws.{getD-part, part-left, part-right, part-all, part-written, part-before, part-after, part-inside, length-bytesOf, number-bytesOf, numberAt-outside, length-repeated, repeated-more, repeated-once, same-nowhere}
+use Rattle.tags.specs.Tag.{tagOf, stateWord}
+use Rattle.tags.specs.SizeCode.{codeOf}
+use Rattle.tags.specs.Chunk.{redzone, freeFill, grantFill, guard, chunkOf, freeChunk, grantedChunk, tagAt, LawfulGrant}
+use Rattle.tags.specs.Judge.{freeVerdict, allocatedVerdict, sizedVerdict, zoneVerdict, zoneAfter}
+use Rattle.tags.proofs.Laws.{decode-code, length-chunkOf, length-freeChunk, length-grantedChunk}
+use Rattle.tags.specs.declared.tag.State.{State}
+use Rattle.tags.specs.declared.tag.State.the-variants as state
+use Rattle.tags.specs.declared.chunk.Grant.{Grant}
+use Rattle.tags.specs.declared.chunk.Grant.the-variants as grant
+use Rattle.tags.specs.declared.verdict.Verdict.the-variants.{Free, Whole, Allocated}
+use Rattle.ledger.specs.Ledger.{Loan, grantSize, fresh, laidOver, asGranted}
+use Rattle.ledger.proofs.Runs.{sets-over, sets-same, part-repeated}
+
+-- ---- the words behind the buffer
+
+-- a word is read back from its bytes
+pub word-back : (v : ℕ) → v < 4294967296 → number (bytesOf 4 v) ≡ v
+word-back v h = number-bytesOf 4 v ∙ (let e : v % 4294967296 ≡ v = omega arith in e)
+
+-- the last four bytes
+last : (p v : List ℕ) (at : ℕ) → length p ≡ at → length v ≡ 4 → part (p ++ v) at 4 ≡ v
+last p v at e f = part-right p v at 0 4 (omega arith) ∙ part-all v 4 f
+
+-- R0's bytes, R1, T0 and T1 of a chunk with a buffer of `size` bytes
+pub record Ends (size : ℕ) (c zone : List ℕ) (r1 t0 t1 : ℕ) : Type 0 where
+  pub long : length c ≡ size + 16
+  pub zoneIs : part c size 4 ≡ zone
+  pub codeIs : numberAt 4 c (size + 4) ≡ r1
+  pub firstIs : numberAt 4 c (size + 8) ≡ t0
+  pub secondIs : numberAt 4 c (size + 12) ≡ t1
+
+pub ends-chunk : (size : ℕ) (b : List ℕ) (r0 r1 t0 t1 : ℕ) → length b ≡ size → r1 < 4294967296 → t0 < 4294967296 → t1 < 4294967296
+    → Ends size (chunkOf b r0 r1 t0 t1) (bytesOf 4 r0) r1 t0 t1
+unfolding chunkOf numberAt
+ends-chunk size b r0 r1 t0 t1 e h1 h2 h3 =
+    let z0 = bytesOf 4 r0 in
+    let z1 = bytesOf 4 r1 in
+    let z2 = bytesOf 4 t0 in
+    let z3 = bytesOf 4 t1 in
+    let l1 : length (b ++ z0) ≡ size + 4 = simp (length-append, length-bytesOf) (omega arith) in
+    let l2 : length (b ++ z0 ++ z1) ≡ size + 8 = simp (length-append, length-bytesOf) (omega arith) in
+    let l3 : length (b ++ z0 ++ z1 ++ z2) ≡ size + 12 = simp (length-append, length-bytesOf) (omega arith) in
+    record {
+      long = simp (length-append, length-bytesOf) (omega arith);
+      zoneIs = part-left (b ++ z0 ++ z1 ++ z2) z3 size 4 (omega arith)
+          ∙ part-left (b ++ z0 ++ z1) z2 size 4 (omega arith)
+          ∙ part-left (b ++ z0) z1 size 4 (omega arith)
+          ∙ last b z0 size e (length-bytesOf 4 r0);
+      codeIs = ap number
+          (part-left (b ++ z0 ++ z1 ++ z2) z3 (size + 4) 4 (omega arith)
+          ∙ part-left (b ++ z0 ++ z1) z2 (size + 4) 4 (omega arith)
+          ∙ last (b ++ z0) z1 (size + 4) l1 (length-bytesOf 4 r1))
+          ∙ word-back r1 h1;
+      firstIs = ap number
+          (part-left (b ++ z0 ++ z1 ++ z2) z3 (size + 8) 4 (omega arith)
+          ∙ last (b ++ z0 ++ z1) z2 (size + 8) l2 (length-bytesOf 4 t0))
+          ∙ word-back t0 h2;
+      secondIs = ap number (last (b ++ z0 ++ z1 ++ z2) z3 (size + 12) l3 (length-bytesOf 4 t1)) ∙ word-back t1 h3;
+    }
+
+module _ {size : ℕ} {c zone : List ℕ} {r1 t0 t1 : ℕ} (e : Ends size c zone r1 t0 t1) where
+  -- a run within the buffer leaves them as they are
+  pub ends-within : (vs : List ℕ) (at : ℕ) → at + length vs ≤ size → Ends size (sets c at vs) zone r1 t0 t1
+  ends-within vs at h = record {
+    long = length-sets c at vs ∙ e .long;
+    zoneIs = part-after vs c at size 4 h ∙ e .zoneIs;
+    codeIs = numberAt-outside 4 vs c at (size + 4) (inr (omega arith)) ∙ e .codeIs;
+    firstIs = numberAt-outside 4 vs c at (size + 8) (inr (omega arith)) ∙ e .firstIs;
+    secondIs = numberAt-outside 4 vs c at (size + 12) (inr (omega arith)) ∙ e .secondIs;
+  }
+
+  -- a byte behind the buffer is R0's first
+  pub ends-guard : (v : ℕ) → Ends size (set c size v) (set zone 0 v) r1 t0 t1
+  ends-guard v =
+      let one : size + length (v ∷ []) ≤ size + 4 = omega arith in
+      record {
+        long = length-set c size v ∙ e .long;
+        zoneIs = ap (λ (x : ℕ). part (sets c x (v ∷ [])) size 4) (sym (add-zero size))
+            ∙ part-inside (v ∷ []) c size 4 0 (omega arith)
+            ∙ ap (λ (x : List ℕ). set x 0 v) (e .zoneIs);
+        codeIs = numberAt-outside 4 (v ∷ []) c size (size + 4) (inr one) ∙ e .codeIs;
+        firstIs = numberAt-outside 4 (v ∷ []) c size (size + 8) (inr (omega arith)) ∙ e .firstIs;
+        secondIs = numberAt-outside 4 (v ∷ []) c size (size + 12) (inr (omega arith)) ∙ e .secondIs;
+      }
+
+  size-is : length c - 16 ≡ size
+  size-is = let l = e .long in omega arith
+
+  -- ---- what they say
+
+  pub tag-is : tagAt c ≡ record { t0 = t0; t1 = t1 }
+  unfolding tagAt
+  tag-is = rw (size-is, e .firstIs, e .secondIs)
+
+-- a whole grant
+pub whole-sound : {size : ℕ} {c : List ℕ} {t0 t1 : ℕ} → Ends size c (bytesOf 4 redzone) redzone t0 t1 → allocatedVerdict c ≡ Whole
+unfolding allocatedVerdict zoneVerdict
+whole-sound e = rw (size-is e, e .codeIs, e .zoneIs, same-nowhere (bytesOf 4 redzone))
+
+-- a grant of s bytes
+pub sized-sound : {size : ℕ} {c : List ℕ} {t0 t1 : ℕ} (s : ℕ) → Ends size c (zoneAfter s size) (codeOf s) t0 t1 → getD c s 0 ≡ guard → 1 ≤ s → s ≤ size
+    → codeOf s ≢ redzone → allocatedVerdict c ≡ Allocated s
+unfolding allocatedVerdict sizedVerdict zoneVerdict
+sized-sound {size} s e g h k ne =
+    rw (size-is e, e .codeIs, ne-eqb (codeOf s) redzone ne, decode-code s size h k, size-is e, g, e .zoneIs, same-nowhere (zoneAfter s size))
+
+-- the first bytes of a chunk are the buffer's
+pub buffer-part : (b : List ℕ) (r0 r1 t0 t1 k : ℕ) → k ≤ length b → part (chunkOf b r0 r1 t0 t1) 0 k ≡ part b 0 k
+unfolding chunkOf
+buffer-part b r0 r1 t0 t1 k h =
+    let z0 = bytesOf 4 r0 in
+    let z1 = bytesOf 4 r1 in
+    let z2 = bytesOf 4 t0 in
+    part-left (b ++ z0 ++ z1 ++ z2) (bytesOf 4 t1) 0 k (simp (length-append, length-bytesOf) (omega arith))
+    ∙ part-left (b ++ z0 ++ z1) z2 0 k (simp (length-append, length-bytesOf) (omega arith))
+    ∙ part-left (b ++ z0) z1 0 k (simp (length-append, length-bytesOf) (omega arith))
+    ∙ part-left b z0 0 k (omega arith)
+
+-- and then come R0 and R1
+zones-part : (b : List ℕ) (r0 r1 t0 t1 size : ℕ) → length b ≡ size → part (chunkOf b r0 r1 t0 t1) size 8 ≡ bytesOf 4 r0 ++ bytesOf 4 r1
+unfolding chunkOf
+zones-part b r0 r1 t0 t1 size e =
+    let z0 = bytesOf 4 r0 in
+    let z1 = bytesOf 4 r1 in
+    let z2 = bytesOf 4 t0 in
+    part-left (b ++ z0 ++ z1 ++ z2) (bytesOf 4 t1) size 8 (simp (length-append, length-bytesOf) (omega arith))
+    ∙ part-left (b ++ z0 ++ z1) z2 size 8 (simp (length-append, length-bytesOf) (omega arith))
+    ∙ ap (λ (x : List ℕ). part x size 8) (append-assoc b z0 z1)
+    ∙ part-right b (z0 ++ z1) size 0 8 (omega arith)
+    ∙ part-all (z0 ++ z1) 8 (simp (length-append, length-bytesOf))
+
+two-zones : bytesOf 4 redzone ++ bytesOf 4 redzone ≡ repeated 8 redzone
+two-zones = ap (λ (x : List ℕ). x ++ bytesOf 4 redzone) (sym (repeated-once redzone)) ∙ sym (repeated-more 4 redzone refl)
+
+-- a free chunk
+free-fill : (size a : ℕ) → part (freeChunk size a) 0 size ≡ repeated size freeFill
+unfolding freeChunk
+free-fill size a =
+    buffer-part (repeated size freeFill) redzone redzone (tagOf a state.Free .t0) (tagOf a state.Free .t1) size (omega (arith, length-repeated size freeFill))
+    ∙ part-all (repeated size freeFill) size (length-repeated size freeFill)
+
+free-zone : (size a : ℕ) → part (freeChunk size a) size 8 ≡ repeated 8 redzone
+unfolding freeChunk
+free-zone size a =
+    zones-part (repeated size freeFill) redzone redzone (tagOf a state.Free .t0) (tagOf a state.Free .t1) size (length-repeated size freeFill) ∙ two-zones
+
+pub free-sound : (size a : ℕ) → freeVerdict (freeChunk size a) ≡ Free
+unfolding freeVerdict
+free-sound size a =
+    let l : length (freeChunk size a) - 16 ≡ size = omega (arith, length-freeChunk size a) in
+    rw (l, free-fill size a, same-nowhere (repeated size freeFill), free-zone size a, same-nowhere (repeated 8 redzone))
+
+-- ---- a chunk as the ledger has it
+
+abbrev pub stateFor : Option Loan → State
+stateFor none = state.Free
+stateFor (some o) = state.Allocated
+
+-- the chunk, with a record at the address a
+abbrev pub chunkFor : ℕ → ℕ → Option Loan → List ℕ
+chunkFor size a none = freeChunk size a
+chunkFor size a (some o) = sets (grantedChunk size a (o .grant)) 0 (o .client)
+
+-- what holds of a loan
+abbrev pub LawfulLoan : ℕ → Option Loan → Type 0
+LawfulLoan size none = Unit {0}
+LawfulLoan size (some o) = LawfulGrant size (o .grant) × (length (o .client) ≡ grantSize size (o .grant))
+
+pub length-chunkFor : (size a : ℕ) (o : Option Loan) → length (chunkFor size a o) ≡ size + 16
+length-chunkFor size a none = length-freeChunk size a
+length-chunkFor size a (some o) = length-sets (grantedChunk size a (o .grant)) 0 (o .client) ∙ length-grantedChunk size a (o .grant)
+
+pub grant-within : (size : ℕ) (q : Grant) → LawfulGrant size q → grantSize size q ≤ size
+grant-within size grant.Whole l = omega arith
+grant-within size (grant.Sized s) l = l .1
+
+module _ (size a : ℕ) (few : size ≤ 4096) (word : a < 4294967296) where
+  tag-word : (s : State) → tagOf a s .t1 < 4294967296
+  unfolding tagOf
+  tag-word state.Free = xor-lt 32 a (stateWord state.Free) word (lit< tt)
+  tag-word state.Allocated = xor-lt 32 a (stateWord state.Allocated) word (lit< tt)
+
+  filled-ends : (fill r1 : ℕ) (s : State) → r1 < 4294967296
+      → Ends size (chunkOf (repeated size fill) redzone r1 (tagOf a s .t0) (tagOf a s .t1)) (bytesOf 4 redzone) r1 (tagOf a s .t0) (tagOf a s .t1)
+  unfolding tagOf
+  filled-ends fill r1 s h = ends-chunk size (repeated size fill) redzone r1 a (tagOf a s .t1) (length-repeated size fill) h word (tag-word s)
+
+  pub free-ends : Ends size (freeChunk size a) (bytesOf 4 redzone) redzone (tagOf a state.Free .t0) (tagOf a state.Free .t1)
+  unfolding freeChunk
+  free-ends = filled-ends freeFill redzone state.Free (lit< tt)
+
+  pub whole-ends : Ends size (grantedChunk size a grant.Whole) (bytesOf 4 redzone) redzone (tagOf a state.Allocated .t0) (tagOf a state.Allocated .t1)
+  unfolding grantedChunk
+  whole-ends = filled-ends grantFill redzone state.Allocated (lit< tt)
+
+  code-small : (s : ℕ) → s ≤ size → codeOf s < 4294967296
+  unfolding codeOf
+  code-small s h = omega arith
+
+  pub code-other : (s : ℕ) → s ≤ size → codeOf s ≢ redzone
+  unfolding codeOf
+  code-other s h e = omega arith
+
+  pub sized-ends : (s : ℕ) → s ≤ size
+      → Ends size (grantedChunk size a (grant.Sized s)) (zoneAfter s size) (codeOf s) (tagOf a state.Allocated .t0) (tagOf a state.Allocated .t1)
+  unfolding grantedChunk
+  sized-ends s h = go (ℕ-discrete s size)
+    where
+      base : Ends size (chunkOf (repeated size grantFill) redzone (codeOf s) (tagOf a state.Allocated .t0) (tagOf a state.Allocated .t1))
+          (bytesOf 4 redzone) (codeOf s) (tagOf a state.Allocated .t0) (tagOf a state.Allocated .t1)
+      base = filled-ends grantFill (codeOf s) state.Allocated (code-small s h)
+
+      go : Dec (s ≡ size)
+          → Ends size (set (chunkOf (repeated size grantFill) redzone (codeOf s) (tagOf a state.Allocated .t0) (tagOf a state.Allocated .t1)) s guard)
+          (zoneAfter s size) (codeOf s) (tagOf a state.Allocated .t0) (tagOf a state.Allocated .t1)
+      go (yes e) = rw (eq-eqb s size e, e) (rw e at (ends-guard base guard))
+      go (no ne) = rw (ne-eqb s size ne) (ends-within base (guard ∷ []) s (omega arith))
+
+  pub granted-tag : (q : Grant) → LawfulGrant size q → (vs : List ℕ) → length vs ≤ size
+      → tagAt (sets (grantedChunk size a q) 0 vs) ≡ tagOf a state.Allocated
+  granted-tag grant.Whole l vs h = tag-is (ends-within whole-ends vs 0 (omega arith))
+  granted-tag (grant.Sized s) l vs h = tag-is (ends-within (sized-ends s (l .1)) vs 0 (omega arith))
+
+  -- T0 and T1 are the record's
+  pub tag-for : (o : Option Loan) → LawfulLoan size o → tagAt (chunkFor size a o) ≡ tagOf a (stateFor o)
+  tag-for none l = tag-is free-ends
+  tag-for (some o) l = granted-tag (o .grant) (l .0) (o .client) (omega (arith, l .1, grant-within size (o .grant) (l .0)))
+
+  -- the guard stands
+  guard-stands : (s : ℕ) → s ≤ size → (vs : List ℕ) → length vs ≡ s → getD (sets (grantedChunk size a (grant.Sized s)) 0 vs) s 0 ≡ guard
+  unfolding grantedChunk
+  guard-stands s h vs e =
+      let c = chunkOf (repeated size grantFill) redzone (codeOf s) (tagOf a state.Allocated .t0) (tagOf a state.Allocated .t1) in
+      let l : length c ≡ size + 16 = length-chunkOf (repeated size grantFill) _ _ _ _ ∙ ap (λ (x : ℕ). x + 16) (length-repeated size grantFill) in
+      ap (λ (x : ℕ). getD (sets (set c s guard) 0 vs) x 0) (sym (add-zero s))
+      ∙ sym (getD-part (sets (set c s guard) 0 vs) s 1 0 (omega arith))
+      ∙ ap (λ (x : List ℕ). getD x 0 0) (part-after vs (set c s guard) 0 s 1 (omega arith))
+      ∙ getD-part (set c s guard) s 1 0 (omega arith)
+      ∙ ap (λ (x : ℕ). getD (set c s guard) x 0) (add-zero s)
+      ∙ getD-set-same c s guard 0 (omega arith)
+
+  -- found as granted
+  pub granted-verdict : (q : Grant) → LawfulGrant size q → (vs : List ℕ) → length vs ≡ grantSize size q
+      → allocatedVerdict (sets (grantedChunk size a q) 0 vs) ≡ asGranted q
+  granted-verdict grant.Whole l vs e = whole-sound (ends-within whole-ends vs 0 (omega arith))
+  granted-verdict (grant.Sized s) l vs e =
+      sized-sound s (ends-within (sized-ends s (l .1)) vs 0 (omega (arith, l .1))) (guard-stands s (l .1) vs e) (l .0) (l .1) (code-other s (l .1))
+
+-- a fresh loan
+filled-front : (size a r1 k : ℕ) → k ≤ size
+    → part (chunkOf (repeated size grantFill) redzone r1 (tagOf a state.Allocated .t0) (tagOf a state.Allocated .t1)) 0 k ≡ repeated k grantFill
+filled-front size a r1 k h =
+    buffer-part (repeated size grantFill) redzone r1 (tagOf a state.Allocated .t0) (tagOf a state.Allocated .t1) k (omega (arith, length-repeated size grantFill))
+    ∙ part-repeated size k grantFill h
+
+granted-front : (size a : ℕ) (q : Grant) → LawfulGrant size q → part (grantedChunk size a q) 0 (grantSize size q) ≡ repeated (grantSize size q) grantFill
+unfolding grantedChunk
+granted-front size a grant.Whole l = filled-front size a redzone size (omega arith)
+granted-front size a (grant.Sized s) l =
+    part-before (guard ∷ []) (chunkOf (repeated size grantFill) redzone (codeOf s) (tagOf a state.Allocated .t0) (tagOf a state.Allocated .t1)) s 0 s (omega arith)
+    ∙ filled-front size a (codeOf s) s (l .1)
+
+pub fresh-chunk : (size a : ℕ) (q : Grant) → LawfulGrant size q → grantedChunk size a q ≡ chunkFor size a (some (fresh size q))
+fresh-chunk size a q l =
+    sym (sets-same (grantedChunk size a q) (grantSize size q) (omega (arith, grant-within size q l, length-grantedChunk size a q)))
+    ∙ ap (λ (x : List ℕ). sets (grantedChunk size a q) 0 x) (granted-front size a q l)
+
+pub fresh-lawful : (size : ℕ) (q : Grant) → LawfulGrant size q → LawfulLoan size (some (fresh size q))
+fresh-lawful size q l = (l, length-repeated (grantSize size q) grantFill)
+
+-- the client bytes
+pub client-part : (size a : ℕ) (o : Loan) → LawfulLoan size (some o) → part (chunkFor size a (some o)) 0 (grantSize size (o .grant)) ≡ o .client
+client-part size a o l =
+    part-written (grantedChunk size a (o .grant)) (o .client) 0 (grantSize size (o .grant)) (l .1)
+    (omega (arith, grant-within size (o .grant) (l .0), length-grantedChunk size a (o .grant)))
+
+-- a store into them
+pub store-chunk : (size a offset : ℕ) (bytes : List ℕ) (o : Loan) → LawfulLoan size (some o) → offset + length bytes ≤ grantSize size (o .grant)
+    → sets (chunkFor size a (some o)) offset bytes ≡ chunkFor size a (laidOver offset bytes (some o))
+store-chunk size a offset bytes o l h =
+    sets-over (grantedChunk size a (o .grant)) (o .client) bytes offset (omega (arith, l .1))
+    (omega (arith, l .1, grant-within size (o .grant) (l .0), length-grantedChunk size a (o .grant)))
+
+pub store-lawful : (size offset : ℕ) (bytes : List ℕ) (o : Loan) → LawfulLoan size (some o) → LawfulLoan size (laidOver offset bytes (some o))
+store-lawful size offset bytes o l = (l .0, length-sets (o .client) offset bytes ∙ l .1)

@@ -1,0 +1,98 @@
+-- An image of two buffers of 8 bytes, laid out and run by evaluation: the claim is not empty. Assumes nothing.
+use mathlib.Core.Path.{_≡_, refl}
+use mathlib.Core.List.{List, [], _∷_}
+use mathlib.Core.Option.{none, some}
+use lib.Dec.{lit<}
+use lib.ListN.{replicate}
+use Rattle.words.specs.Word.{part, number, bytesOf, numberAt}
+use Rattle.words.specs.Run.{repeated, differenceFrom}
+use Rattle.tags.specs.Tag.{tagOf, patternWord, patternOf}
+use Rattle.tags.specs.SizeCode.{codeOf, decodedOf}
+use Rattle.tags.specs.Chunk.{grantFill, chunkOf, freeChunk, grantedChunk, tagAt}
+use Rattle.tags.specs.Judge.{freeVerdict, zoneVerdict, sizedVerdict, allocatedVerdict}
+use Rattle.tags.specs.declared.chunk.Grant.the-variants as grant
+use Rattle.image.specs.Areas.{Areas, stamped}
+use Rattle.image.specs.Sheet.{fieldIs, shaped, sheetOf, sizesLawful, basesLawful, lawful, measured, numbered, openedOf}
+use Rattle.image.specs.Place.{placeOf}
+use Rattle.image.specs.Record.{recordWord}
+use Rattle.image.specs.Layout.{flat, linkTo, sheetBytes, recordBytes, laidAreas, laidSheet, layOutOf}
+use Rattle.image.specs.Allocate.{takenChunk, takenHead, takenOf, allocatePlan, grantedAreas, allocateOf}
+use Rattle.image.specs.Holding.{heldChunk, heldAt, heldOf}
+use Rattle.image.specs.Free.{freePlan, freedAreas, freeOf}
+use Rattle.image.specs.Store.{storePlan, storedAreas, storeOf}
+use Rattle.image.specs.declared.refusal.Refusal.the-variants.{NoSuchBuffer, NoRoom, BadSize, OtherGrant}
+use Rattle.image.specs.declared.refusal.Outcome.the-variants as outcome
+use Rattle.image.specs.declared.allocate.Allocated.the-variants as allocated
+use Rattle.ledger.specs.Ledger.{Call, allocate, free, store, Answer, resultOf, put, World, opened, run, Sound}
+use Rattle.ledger.proofs.Theorem.{theorem}
+
+-- the areas before, of the lengths that lay out asks for
+areas₀ : Areas
+areas₀ = record { sheet = replicate 48 0; heap = replicate 48 0; records = replicate 192 0 }
+
+-- the lay out is accepted
+laid₀ : layOutOf areas₀ 64 4096 8192 8 2 .answer ≡ outcome.Done
+unfolding areas₀ layOutOf lawful sizesLawful basesLawful
+laid₀ = refl
+
+-- what a list of calls leaves, and what a call then answers
+world₀ : List Call → World
+world₀ calls = run 8 calls (opened (layOutOf areas₀ 64 4096 8192 8 2 .areas))
+
+answer₀ : List Call → (call : Call) → Answer call
+answer₀ calls call = resultOf call (world₀ calls .areas) .answer
+
+-- a grant of 5 bytes, two bytes stored from offset 1 on, a store past the 5 bytes, and a whole grant
+calls₀ : List Call
+calls₀ = allocate (grant.Sized 5) 1 7 ∷ store 4096 1 (17 ∷ 18 ∷ []) ∷ store 4096 4 (17 ∷ 18 ∷ []) ∷ allocate grant.Whole 2 7 ∷ []
+
+-- then the first buffer is given back
+calls₁ : List Call
+calls₁ = allocate (grant.Sized 5) 1 7 ∷ allocate grant.Whole 2 7 ∷ free 4096 (grant.Sized 5) 3 7 ∷ []
+
+-- what is evaluated: both are out, the first with the bytes stored between those of the fill; there is no room for another; a free with another grant is
+-- refused; after a free the buffer isn't out, and it is the one that is granted next
+record Evaluated : Type 0 where
+  first : world₀ calls₀ .ledger .out 4096 ≡ some (record { grant = grant.Sized 5; client = 0xba ∷ 17 ∷ 18 ∷ 0xfe ∷ 0xba ∷ [] })
+  second : world₀ calls₀ .ledger .out 4120 ≡ some (record { grant = grant.Whole; client = repeated 8 grantFill })
+  granted : world₀ calls₀ .ledger .allocations ≡ 2
+  none-freed : world₀ calls₀ .ledger .frees ≡ 0
+  no-room : answer₀ calls₀ (allocate (grant.Sized 1) 4 7) ≡ allocated.Refused NoRoom
+  too-large : answer₀ calls₀ (allocate (grant.Sized 9) 4 7) ≡ allocated.Refused BadSize
+  other-grant : answer₀ calls₀ (free 4096 (grant.Sized 6) 4 7) ≡ outcome.Refused OtherGrant
+  no-buffer : answer₀ calls₀ (free 4097 (grant.Sized 5) 4 7) ≡ outcome.Refused NoSuchBuffer
+  back : world₀ calls₁ .ledger .out 4096 ≡ none
+  freed : world₀ calls₁ .ledger .frees ≡ 1
+  next : answer₀ calls₁ (allocate (grant.Sized 8) 4 7) ≡ allocated.At 4096
+
+evaluated : Evaluated
+unfolding areas₀ world₀ answer₀ calls₀ calls₁ run put layOutOf lawful sizesLawful basesLawful laidAreas sheetBytes recordBytes flat linkTo part number bytesOf numberAt repeated differenceFrom tagOf patternWord patternOf codeOf decodedOf chunkOf freeChunk grantedChunk tagAt freeVerdict zoneVerdict sizedVerdict allocatedVerdict stamped fieldIs shaped sheetOf measured numbered openedOf placeOf recordWord takenChunk takenHead takenOf allocatePlan grantedAreas allocateOf heldChunk heldAt heldOf freePlan freedAreas freeOf storePlan storedAreas storeOf
+evaluated = record {
+  first = refl;
+  second = refl;
+  granted = refl;
+  none-freed = refl;
+  no-room = refl;
+  too-large = refl;
+  other-grant = refl;
+  no-buffer = refl;
+  back = refl;
+  freed = refl;
+  next = refl;
+}
+
+-- the claim holds of this image and these calls
+sound₀ : Sound (laidSheet 64 4096 8192 8 2) (world₀ calls₀)
+unfolding world₀
+sound₀ = theorem areas₀ 64 4096 8192 8 2 (lit< tt) laid₀ calls₀
+
+-- P12: the fourth allocate in a fresh image of three buffers of 24 bytes
+fresh₃ : List Call → World
+fresh₃ calls = run 24 calls (opened (laidAreas (laidSheet 64 4096 8192 24 3)))
+
+three₃ : List Call
+three₃ = allocate grant.Whole 1 7 ∷ allocate grant.Whole 2 7 ∷ allocate grant.Whole 3 7 ∷ []
+
+P12 : allocateOf (fresh₃ three₃ .areas) grant.Whole 4 7 .answer ≡ allocated.Refused NoRoom
+unfolding fresh₃ three₃ run put laidAreas sheetBytes recordBytes flat linkTo part number bytesOf numberAt repeated differenceFrom tagOf patternWord patternOf codeOf decodedOf chunkOf freeChunk grantedChunk tagAt freeVerdict zoneVerdict sizedVerdict allocatedVerdict stamped fieldIs shaped sheetOf measured numbered openedOf lawful sizesLawful basesLawful placeOf recordWord takenChunk takenHead takenOf allocatePlan grantedAreas allocateOf
+P12 = refl

@@ -1,0 +1,111 @@
+-- What the invariant says of the chain, of each buffer's own record and of its verdict. Assumes nothing.
+use mathlib.Core.Path.{_≡_, refl, sym, ap, _∙_}
+use mathlib.Core.Logic.{_≢_}
+use mathlib.Core.Bool.{false, not}
+use mathlib.Core.List.{List, [], _∷_}
+use mathlib.Core.Option.{Option, none, some}
+use Prim.Native.Nat.{ℕ, zero, suc, _+_, _≤_, _<_}
+use native.Mathlib.Decide.{ℕ-discrete}
+use native.Mathlib.Omega.{arith}
+use borrow.Author.Tests.{eq-eqb, ne-eqb}
+use lib.Dec.{eqb}
+use Rattle.tags.specs.Tag.{tagOf, patternOf, statePattern}
+use Rattle.tags.specs.Chunk.{tagAt}
+use Rattle.tags.specs.Verdict.{verdictNumber}
+use Rattle.tags.specs.declared.tag.Tag.{Tag}
+use Rattle.tags.specs.declared.chunk.Grant.{Grant}
+use Rattle.tags.specs.declared.chunk.Grant.the-variants as grant
+use Rattle.tags.specs.declared.verdict.Verdict.{Verdict}
+use Rattle.tags.proofs.Laws.{tag-pattern}
+use Rattle.image.specs.Areas.{Areas}
+use Rattle.image.specs.Record.{addressWord}
+use Rattle.image.specs.Chain.{occ}
+use Rattle.image.specs.Pairing.{namers, theOne, ownOf}
+use Rattle.image.specs.Judge.{bufferAddress, recordAddress, chainedVerdict, ownedVerdict, judged, imageChain, verdictOf}
+use Rattle.image.specs.declared.sheet.Sheet.{Sheet}
+use Rattle.image.specs.declared.chain.Ending.the-variants.{End}
+use Rattle.image.specs.declared.pairing.Own.the-variants.{One}
+use Rattle.image.proofs.Places.{address-one}
+use Rattle.image.proofs.Chains.{linked-chain}
+use Rattle.ledger.specs.Ledger.{Loan, headed, asGranted, asNoted, foundAllocated}
+use Rattle.ledger.proofs.Chunks.{chunkFor, stateFor, LawfulLoan, tag-for, granted-verdict, free-sound}
+use Rattle.ledger.proofs.Counts.{total}
+use Rattle.ledger.proofs.State.{Laid, outs, Holds, record-fits, records-some, chunk-some, once}
+
+-- ---- own records
+
+namers-none : (word : ℕ → ℕ) (m a : ℕ) → ((j : ℕ) → j < m → word j ≢ a) → namers word m a ≡ []
+unfolding namers
+namers-none word zero a h = refl
+namers-none word (suc m) a h = rw (ne-eqb (word m) a (h m (omega arith))) (namers-none word m a (λ j l. h j (omega arith)))
+
+namers-one : (word : ℕ → ℕ) (m a i : ℕ) → i < m → word i ≡ a → ((j : ℕ) → j < m → j ≢ i → word j ≢ a) → namers word m a ≡ i ∷ []
+unfolding namers
+namers-one word zero a i l e h = absurd (omega arith)
+namers-one word (suc m) a i l e h = go (ℕ-discrete i m) (namers-one word m a i)
+  where
+    go : Dec (i ≡ m) → (i < m → word i ≡ a → ((j : ℕ) → j < m → j ≢ i → word j ≢ a) → namers word m a ≡ i ∷ []) → namers word (suc m) a ≡ i ∷ []
+    go (yes q) ih =
+        rw (eq-eqb (word m) a (ap word (sym q) ∙ e), namers-none word m a (λ j k. h j (omega arith) (λ z. omega arith)), q)
+    go (no ne) ih =
+        rw (ne-eqb (word m) a (h m (omega arith) (λ z. ne (sym z)))) (ih (omega arith) e (λ j k. h j (omega arith)))
+
+-- ---- the tag and the verdict of a chunk as the ledger has it
+
+module _ (size a : ℕ) (few : size ≤ 4096) (word : a < 4294967296) where
+  pub first-for : (o : Option Loan) → LawfulLoan size o → tagAt (chunkFor size a o) .t0 ≡ a
+  unfolding tagOf
+  first-for o l = ap (λ (t : Tag). t .t0) (tag-for size a few word o l)
+
+  pub pattern-for : (o : Option Loan) → LawfulLoan size o → patternOf (tagAt (chunkFor size a o)) ≡ statePattern (stateFor o)
+  pattern-for o l = ap patternOf (tag-for size a few word o l) ∙ tag-pattern a (stateFor o)
+
+  owned-for : (o : Option Loan) → LawfulLoan size o → (k : ℕ) → k + outs o ≡ 1 → ownedVerdict (chunkFor size a o) a (not (eqb k 0)) false ≡ asNoted o
+  unfolding ownedVerdict chainedVerdict
+  owned-for none l k e =
+      let q : k ≡ 1 = omega arith in
+      rw (pattern-for none l, first-for none l, eq-eqb a a refl, q) (free-sound size a)
+  owned-for (some o) l k e =
+      let q : k ≡ 0 = omega arith in
+      rw (pattern-for (some o) l, first-for (some o) l, eq-eqb a a refl, q) (granted-verdict size a few word (o .grant) (l .0) (o .client) (l .1))
+
+-- what the ledger says is no fault, and is found allocated if it is out
+granted-sound : (q : Grant) → verdictNumber (asGranted q) < 20
+granted-sound grant.Whole = omega arith
+granted-sound (grant.Sized s) = omega arith
+
+pub noted-sound : (o : Option Loan) → verdictNumber (asNoted o) < 20
+noted-sound none = omega arith
+noted-sound (some o) = granted-sound (o .grant)
+
+module _ (g : Sheet) (laid : Laid g) {head : ℕ} {a : Areas} {out : ℕ → Option Loan} {chain : List ℕ} (v : Holds g head a out chain) where
+  pub own-is : (i : ℕ) → i < g .count → ownOf (a .records) (g .count) (bufferAddress g i) ≡ One i
+  unfolding ownOf
+  own-is i h =
+      ap theOne
+      (namers-one (addressWord (a .records)) (g .count) (bufferAddress g i) i h (v .names i h)
+      (λ j k ne e. ne (address-one (g .heap) (g .chunk) j i (chunk-some g laid) (sym (v .names j k) ∙ e))))
+
+  pub chain-is : imageChain (headed g head) (a .records) ≡ record { met = chain; ending = End }
+  chain-is = linked-chain (a .records) (g .records) (g .count) (records-some g laid) head chain (v .linked) (once g laid v)
+
+  pub verdict-is : (i : ℕ) → i < g .count → verdictOf (headed g head) (a .heap) (a .records) i ≡ asNoted (out (bufferAddress g i))
+  unfolding verdictOf judged
+  verdict-is i h =
+      rw (own-is i h, chain-is, v .chunks i h)
+      (owned-for (g .size) (recordAddress g i) (laid .law .most) (record-fits g laid i h) (out (bufferAddress g i)) (v .loans i h) (occ i chain) (v .each i h))
+
+noted-count : (o : Option Loan) (v : Verdict) → v ≡ asNoted o → foundAllocated (λ i. v) 1 ≡ outs o
+unfolding foundAllocated
+noted-count none v e = rw e
+noted-count (some o) v e = rw e (granted-one (o .grant))
+  where
+    granted-one : (q : Grant) → foundAllocated (λ i. asGranted q) 1 ≡ 1
+    granted-one grant.Whole = refl
+    granted-one (grant.Sized s) = refl
+
+-- the number found allocated is the number out
+pub found-count : (v : ℕ → Verdict) (o : ℕ → Option Loan) (n : ℕ) → ((i : ℕ) → i < n → v i ≡ asNoted (o i)) → foundAllocated v n ≡ total (λ i. outs (o i)) n
+unfolding foundAllocated total
+found-count v o zero h = refl
+found-count v o (suc n) h = omega (arith, noted-count (o n) (v n) (h n (omega arith)), found-count v o n (λ i l. h i (omega arith)))

@@ -1,0 +1,12 @@
+pub mod Runs
+pub mod Chunks
+pub mod Sheets
+pub mod Counts
+pub mod State
+pub mod Found
+pub mod Calls
+pub mod Keeps
+pub mod Start
+pub mod Always
+pub mod Theorem
+pub mod Examples

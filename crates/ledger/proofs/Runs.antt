@@ -1,0 +1,75 @@
+-- Laws of runs of bytes: one written over another, one written where it stands already, and lists of equal parts one after the other. Assumes nothing.
+use mathlib.Core.Path.{_≡_, refl, sym, ap, _∙_, subst}
+use mathlib.Core.List.{List, [], _∷_, _++_}
+use Prim.Native.Nat.{ℕ, zero, suc, _+_, _*_, _≤_, _<_}
+use native.Mathlib.Nat.{zero-add, zero-mul, suc-mul}
+use native.Mathlib.Decide.{ℕ-discrete}
+use native.Mathlib.Omega.{arith}
+use lib.ListN.{length, take, drop, getD, set, length-set, length-append, take-append-drop}
+use lib.Seq.{sets, length-sets, sets-eq, set-append-left, length-take-le, ext-getD}
+use Rattle.words.specs.Word.{part}
+use Rattle.words.specs.Run.{repeated}
+use Rattle.words.proofs.Laws.{length-part, getD-part, part-left, part-right, part-all, length-repeated, getD-repeated, below}
+use Rattle.image.specs.Layout.{flat}
+
+-- a run written in the first of two lists
+pub sets-left : (vs xs ys : List ℕ) (o : ℕ) → o + length vs ≤ length xs → sets (xs ++ ys) o vs ≡ sets xs o vs ++ ys
+sets-left [] xs ys o h = refl
+sets-left (a ∷ vs) xs ys o h =
+    ap (λ (x : List ℕ). sets x (suc o) vs) (set-append-left xs ys o a (omega arith))
+    ∙ sets-left vs (set xs o a) ys (suc o) (omega (arith, length-set xs o a))
+
+-- a run written at the front
+pub sets-front : (l vs : List ℕ) → length vs ≤ length l → sets l 0 vs ≡ vs ++ drop (length vs) l
+sets-front l vs h = sets-eq vs l 0 (omega arith) ∙ ap (λ (n : ℕ). vs ++ drop n l) (zero-add (length vs))
+
+-- a run written over a run
+pub sets-over : (l vs ws : List ℕ) (o : ℕ) → o + length ws ≤ length vs → length vs ≤ length l → sets (sets l 0 vs) o ws ≡ sets l 0 (sets vs o ws)
+sets-over l vs ws o h k =
+    ap (λ (x : List ℕ). sets x o ws) (sets-front l vs k)
+    ∙ sets-left ws vs (drop (length vs) l) o h
+    ∙ ap (λ (n : ℕ). sets vs o ws ++ drop n l) (sym (length-sets vs o ws))
+    ∙ sym (sets-front l (sets vs o ws) (omega (arith, length-sets vs o ws)))
+
+-- a run written where it stands
+pub sets-same : (l : List ℕ) (k : ℕ) → k ≤ length l → sets l 0 (part l 0 k) ≡ l
+unfolding part
+sets-same l k h =
+    sets-front l (take k l) (omega (arith, length-take-le k l h))
+    ∙ ap (λ (n : ℕ). take k l ++ drop n l) (length-take-le k l h)
+    ∙ take-append-drop k l
+
+-- the first bytes of a repeated word
+pub part-repeated : (n k w : ℕ) → k ≤ n → part (repeated n w) 0 k ≡ repeated k w
+part-repeated n k w h =
+    let e : length (part (repeated n w) 0 k) ≡ k = length-part (repeated n w) 0 k (omega (arith, length-repeated n w)) in
+    ext-getD 0 (part (repeated n w) 0 k) (repeated k w)
+    (e ∙ sym (length-repeated k w))
+    (λ i l.
+    let q : i < k = omega arith in
+    getD-part (repeated n w) 0 k i q
+    ∙ ap (λ (x : ℕ). getD (repeated n w) x 0) (zero-add i)
+    ∙ getD-repeated n w i (omega arith)
+    ∙ sym (getD-repeated k w i q))
+
+-- ---- parts of s bytes, one after the other
+
+module _ (s : ℕ) (f : ℕ → List ℕ) (size : (i : ℕ) → length (f i) ≡ s) where
+  pub length-flat : (n : ℕ) → length (flat n f) ≡ n * s
+  unfolding flat
+  length-flat zero = sym (zero-mul s)
+  length-flat (suc n) = simp (length-append, length-flat n, size, suc-mul)
+
+  last : (n : ℕ) → part (flat n f ++ f n) (n * s) s ≡ f n
+  last n = part-right (flat n f) (f n) (n * s) 0 s (omega (arith, length-flat n)) ∙ part-all (f n) s (size n)
+
+  pub part-flat : (n i : ℕ) → i < n → part (flat n f) (i * s) s ≡ f i
+  unfolding flat
+  part-flat zero i h = absurd (omega arith)
+  part-flat (suc n) i h = go (ℕ-discrete i n) (part-flat n i)
+    where
+      go : Dec (i ≡ n) → (i < n → part (flat n f) (i * s) s ≡ f i) → part (flat n f ++ f n) (i * s) s ≡ f i
+      go (yes e) ih = subst (λ (x : ℕ). part (flat n f ++ f n) (x * s) s ≡ f x) (sym e) (last n)
+      go (no ne) ih =
+          let g : i < n = omega arith in
+          part-left (flat n f) (f n) (i * s) s (omega (arith, below s g, length-flat n)) ∙ ih g

@@ -1,0 +1,120 @@
+-- The invariant: what the ledger and a list of records say of the three areas. Assumes nothing.
+use mathlib.Core.Path.{_≡_}
+use mathlib.Core.Logic.{_≢_}
+use mathlib.Core.Bool.{true}
+use mathlib.Core.List.{List, [], _∷_}
+use mathlib.Core.Option.{Option, none, some}
+use Prim.Native.Nat.{ℕ, _+_, _≤_, _<_}
+use native.Mathlib.Decide.{decLt}
+use native.Mathlib.Omega.{arith}
+use lib.ListN.{length}
+use Rattle.words.proofs.Laws.{below}
+use Rattle.image.specs.Areas.{Areas}
+use Rattle.image.specs.Sheet.{heapLength, recordsLength, lawful, Lawful, openedOf}
+use Rattle.image.specs.Place.{placeOf}
+use Rattle.image.specs.Record.{addressWord}
+use Rattle.image.specs.Chain.{occ}
+use Rattle.image.specs.Walk.{nextWord, Linked}
+use Rattle.image.specs.Judge.{bufferAddress, recordAddress, chunkAt}
+use Rattle.image.specs.Layout.{sheetBytes}
+use Rattle.image.specs.declared.sheet.Sheet.{Sheet}
+use Rattle.image.specs.declared.sheet.Opened.the-variants.{Image}
+use Rattle.image.specs.declared.place.Place.the-variants.{Nowhere}
+use Rattle.image.proofs.Sheets.{record-word}
+use Rattle.ledger.specs.Ledger.{Loan, headed}
+use Rattle.ledger.proofs.Chunks.{chunkFor, LawfulLoan}
+use Rattle.ledger.proofs.Sheets.{Fits, sheet-opens}
+
+-- what is known of the numbers that were laid out
+pub record Laid (g : Sheet) : Type 0 where
+  pub law : Lawful g
+  pub passed : lawful g ≡ true
+  pub cacheFits : g .cache < 4294967296
+  pub flagsFit : g .flags < 65536
+
+-- 1 for a buffer that is out
+abbrev pub outs : Option Loan → ℕ
+outs none = 0
+outs (some o) = 1
+
+-- `chain` holds the records of the buffers that are not out, in the chain's order
+pub record Holds (g : Sheet) (head : ℕ) (a : Areas) (out : ℕ → Option Loan) (chain : List ℕ) : Type 0 where
+  pub sheetIs : a .sheet ≡ sheetBytes (headed g head)
+  pub heapLong : length (a .heap) ≡ heapLength g
+  pub recordsLong : length (a .records) ≡ recordsLength g
+  pub linked : Linked (nextWord (a .records)) (g .records) (g .count) head chain
+  pub each : (j : ℕ) → j < g .count → occ j chain + outs (out (bufferAddress g j)) ≡ 1
+  pub only : (j : ℕ) → g .count ≤ j → occ j chain ≡ 0
+  pub chunks : (j : ℕ) → j < g .count → chunkAt g (a .heap) j ≡ chunkFor (g .size) (recordAddress g j) (out (bufferAddress g j))
+  pub names : (j : ℕ) → j < g .count → addressWord (a .records) j ≡ bufferAddress g j
+  pub loans : (j : ℕ) → j < g .count → LawfulLoan (g .size) (out (bufferAddress g j))
+  pub stray : (x : ℕ) → placeOf (g .heap) (g .chunk) (g .count) x ≡ Nowhere → out x ≡ none
+
+module _ (g : Sheet) (laid : Laid g) where
+  -- a record's address is a word, and not 0
+  pub record-fits : (j : ℕ) → j < g .count → recordAddress g j < 4294967296
+  record-fits j h = omega (arith, record-word g (laid .law) j h)
+
+  pub records-some : g .records ≢ 0
+  records-some e = omega (arith, laid .law .recordsSome)
+
+  pub chunk-some : 0 < g .chunk
+  chunk-some = omega (arith, laid .law .chunks)
+
+  -- the first of a linked list, and the word that leads to it
+  pub first-below : (next : ℕ → ℕ) (head j : ℕ) (js : List ℕ) → Linked next (g .records) (g .count) head (j ∷ js) → j < g .count
+  unfolding Linked
+  first-below next head j js l = l .0
+
+  pub first-address : (next : ℕ → ℕ) (head j : ℕ) (js : List ℕ) → Linked next (g .records) (g .count) head (j ∷ js) → head ≡ recordAddress g j
+  unfolding Linked
+  first-address next head j js l = l .1 .0
+
+  pub rest-linked : (next : ℕ → ℕ) (head j : ℕ) (js : List ℕ) → Linked next (g .records) (g .count) head (j ∷ js)
+      → Linked next (g .records) (g .count) (next j) js
+  unfolding Linked
+  rest-linked next head j js l = l .1 .1
+
+  pub none-linked : (next : ℕ → ℕ) (head : ℕ) → Linked next (g .records) (g .count) head [] → head ≡ 0
+  unfolding Linked
+  none-linked next head l = l
+
+  -- the head is a word
+  pub head-fits : (next : ℕ → ℕ) (head : ℕ) (js : List ℕ) → Linked next (g .records) (g .count) head js → head < 4294967296
+  head-fits next head [] l = omega (arith, none-linked next head l)
+  head-fits next head (j ∷ js) l = omega (arith, first-address next head j js l, record-fits j (first-below next head j js l))
+
+  pub fits : (head : ℕ) → head < 4294967296 → Fits (headed g head)
+  fits head h =
+      let law = laid .law in
+      let one : 0 < g .count = law .some in
+      record {
+        cache = laid .cacheFits;
+        heap = omega (arith, below (g .chunk) one, law .heapFits, chunk-some);
+        records = omega (arith, record-fits 0 one);
+        size = omega (arith, law .most);
+        chunk = omega (arith, law .most, law .chunks);
+        count = omega (arith, law .few);
+        head = h;
+        flags = laid .flagsFit;
+      }
+
+  passed-headed : (head : ℕ) → lawful (headed g head) ≡ true
+  unfolding lawful
+  passed-headed head = laid .passed
+
+  module _ {head : ℕ} {a : Areas} {out : ℕ → Option Loan} {chain : List ℕ} (v : Holds g head a out chain) where
+    -- the image opens
+    pub opens : openedOf (a .sheet) (length (a .heap)) (length (a .records)) ≡ Image (headed g head)
+    opens =
+        rw (v .sheetIs)
+        (sheet-opens (headed g head) (length (a .heap)) (length (a .records)) (fits head (head-fits (nextWord (a .records)) head chain (v .linked)))
+        (passed-headed head) (v .heapLong) (v .recordsLong))
+
+    -- no record is in the list twice
+    pub once : (i : ℕ) → occ i chain ≤ 1
+    once i = go (decLt i (g .count))
+      where
+        go : Dec (i < g .count) → occ i chain ≤ 1
+        go (yes h) = omega (arith, v .each i h)
+        go (no h) = omega (arith, v .only i (omega arith))
