@@ -9,6 +9,9 @@ use crate::{Image, Sequence};
 /// Where the tags stand; the length of a field is the two bytes after its tag.
 const TAGS: [usize; 8] = [0, 7, 14, 21, 26, 31, 36, 43];
 
+/// The longest areas that are made to follow a count: more would only take time.
+const MOST_FOLLOWED: usize = 200_000;
+
 pub fn change_tag(image: &mut Image, sequence: &mut Sequence) {
     let tag = sequence.pick(&TAGS);
     change_byte(&mut image.sheet, tag, sequence.byte());
@@ -101,9 +104,6 @@ pub fn share_addresses(image: &mut Image, sequence: &mut Sequence) {
 pub fn change_cache(image: &mut Image, sequence: &mut Sequence) {
     put_word(&mut image.sheet, CACHE_BODY, sequence.word());
 }
-
-/// The longest areas that are made to follow a count: more would only take time.
-const MOST_FOLLOWED: usize = 200_000;
 
 /// Writes a size, its chunk size and a count, low bases that are apart, and gives the
 /// areas the lengths that follow.

@@ -57,6 +57,7 @@ fn compare(
     let count = expected.map(|count| count as u32);
     assert_eq!(answer, expected_answer(count), "room {room}, {story}");
     assert!(rows.holds(&expected_rows), "rows, room {room}, {story}");
+    lent.assert_as_before(image, story);
 
     let mut rows = Guarded::new(&pattern, sequence);
     let answer = inspect(sheet, heap, records, rows.part_mut());

@@ -1,6 +1,5 @@
 //! What a call is lent, between guards that it must not touch.
 
-use std::fmt::Debug;
 use std::fmt::Display;
 use std::hint::black_box;
 
@@ -16,7 +15,7 @@ pub struct Guarded<T> {
     length: usize,
 }
 
-impl<T: Copy + PartialEq + Debug + From<u8>> Guarded<T> {
+impl<T: Copy + PartialEq + From<u8>> Guarded<T> {
     /// The guards' lengths differ from time to time, and so does the part's alignment.
     pub fn new(part: &[T], sequence: &mut Sequence) -> Guarded<T> {
         let guard = T::from(GUARD);

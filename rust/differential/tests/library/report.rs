@@ -42,6 +42,7 @@ fn compare(
     let length = expected.map(|length| length as u32);
     assert_eq!(answer, expected_answer(length), "room {room}, {story}");
     assert!(output.holds(&expected_output), "output, {room}, {story}");
+    lent.assert_as_before(image, story);
 
     let mut output = Guarded::new(&pattern, sequence);
     let answer = report(sheet, heap, records, log, output.part_mut());
