@@ -1,0 +1,96 @@
+/*
+ * The verified reader of one cache's heap image.
+ *
+ * An image is four areas of bytes: sheet, heap, records and log. Any bytes of any
+ * length may be lent; an image that breaks the rules is refused, with a number that
+ * says which rule. Each area is a pointer and then a length, counted in elements. No
+ * pointer may be null, even with length 0. What a call writes to must be lent to that
+ * call alone and overlap no other area. No call keeps what it was lent.
+ *
+ * Every function answers one number:
+ *
+ *   bits  0 to  7   the refusal's number, 0 when the call was accepted
+ *   bits  8 to 15   the refusal's detail, 0 for every refusal but 7
+ *   bits 16 to 31   0
+ *   bits 32 to 63   the value of an accepted call, 0 for a refusal
+ *
+ * A refused call has changed nothing. Link with libcapi.a, written by
+ * `rt staticlib capi`.
+ */
+#ifndef COMBGALLOP_H
+#define COMBGALLOP_H
+
+#include <stddef.h>
+#include <stdint.h>
+
+#ifdef __cplusplus
+extern "C" {
+#endif
+
+/* The number of the refusal, 0 when the call was accepted. */
+static inline uint8_t cg_refusal(uint64_t answer)
+{
+    return (uint8_t)(answer & 0xff);
+}
+
+/* The detail of refusal 7: the number of the verdict on the damage met. */
+static inline uint8_t cg_detail(uint64_t answer)
+{
+    return (uint8_t)((answer >> 8) & 0xff);
+}
+
+/* The value of an accepted call. */
+static inline uint32_t cg_value(uint64_t answer)
+{
+    return (uint32_t)(answer >> 32);
+}
+
+/* What cg_latest adds to the index of a record, to set it apart from a row. */
+#define CG_RECORD_MARK 0x80000000u
+
+/*
+ * Judges every buffer. Fills three numbers for each, in the order of the buffers: its
+ * index, its verdict's number, and the verdict's size (verdict 2) or offset (25, 26
+ * and 28), else 0. Numbers past those stay as they are.
+ *
+ * Value: the count of buffers n.
+ * Refusals: 1, 2, 3; 11 when rows_length is below three times n.
+ */
+uint64_t cg_inspect(const uint8_t *sheet, size_t sheet_length,
+                    const uint8_t *heap, size_t heap_length,
+                    const uint8_t *records, size_t records_length,
+                    uint32_t *rows, size_t rows_length);
+
+/*
+ * Finds the latest transaction of the buffer with an index, at the uptime `now`: the
+ * youngest of its own record and the log's rows that name that record. Ages are taken
+ * modulo 2^32. On a tie a row wins over the record and a later row over an earlier.
+ *
+ * Value: the number of the row, from 0; or CG_RECORD_MARK plus the record's index.
+ * Refusals: 1, 2, 3; 4 when index is not below n; 7 with detail 20 when not exactly
+ * one record names the buffer; 12 when its stamp needs more than 32 bits.
+ */
+uint64_t cg_latest(const uint8_t *sheet, size_t sheet_length,
+                   const uint8_t *heap, size_t heap_length,
+                   const uint8_t *records, size_t records_length,
+                   const uint8_t *log, size_t log_length,
+                   uint32_t index, uint32_t now);
+
+/*
+ * Writes the report: a first line, a line for each buffer, one for the chain and one
+ * for the count of faults, each ended by a line feed. Bytes past it stay as they are.
+ *
+ * Value: the length of the report.
+ * Refusals: 1, 2, 3; 11 when output_length is below that length.
+ */
+uint64_t cg_report(const uint8_t *sheet, size_t sheet_length,
+                   const uint8_t *heap, size_t heap_length,
+                   const uint8_t *records, size_t records_length,
+                   const uint8_t *log, size_t log_length,
+                   uint8_t *output, size_t output_length);
+
+#ifdef __cplusplus
+}
+#endif
+
+#endif

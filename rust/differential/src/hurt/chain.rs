@@ -1,0 +1,136 @@
+//! Chains that do not meet exactly the free records.
+
+use reference::chain;
+
+use crate::image::{put_word, word, HEAD_BODY, NEXT, RECORD_SIZE};
+use crate::{Image, Sequence};
+
+/// The records met by the chain as it is, none for an image that is refused.
+fn met(image: &Image) -> Vec<usize> {
+    match chain(&image.sheet, &image.heap, &image.records) {
+        Ok(chain) => chain.met,
+        Err(_) => Vec::new(),
+    }
+}
+
+/// Some record met by the chain, or any where none is.
+fn some_met(image: &Image, sequence: &mut Sequence) -> usize {
+    let met = met(image);
+    if met.is_empty() {
+        return sequence.below(image.shape.count);
+    }
+    sequence.pick(&met)
+}
+
+fn put_next(image: &mut Image, record: usize, next: u32) {
+    put_word(&mut image.records, record * RECORD_SIZE + NEXT, next);
+}
+
+fn next(image: &Image, record: usize) -> u32 {
+    word(&image.records, record * RECORD_SIZE + NEXT)
+}
+
+pub fn cut(image: &mut Image, sequence: &mut Sequence) {
+    let record = some_met(image, sequence);
+    put_next(image, record, 0);
+}
+
+/// The chain, or its head, leads to an address near the records, to a buffer, or
+/// anywhere.
+pub fn leave_records(image: &mut Image, sequence: &mut Sequence) {
+    let shape = image.shape;
+    let any = sequence.word();
+    let target = sequence.pick(&[
+        any,
+        1,
+        u32::MAX,
+        shape.heap_base,
+        shape.record_base.wrapping_sub(RECORD_SIZE as u32),
+        shape.record_base.wrapping_add(shape.record_length() as u32),
+    ]);
+    lead_to(image, target, sequence);
+}
+
+/// The chain leads into a record, past its start.
+pub fn miss_start(image: &mut Image, sequence: &mut Sequence) {
+    let record = sequence.below(image.shape.count);
+    let inside = sequence.between(1, RECORD_SIZE - 1) as u32;
+    let target = image.shape.record_address(record) + inside;
+    lead_to(image, target, sequence);
+}
+
+/// Puts an address in a next word of the chain or in the head.
+fn lead_to(image: &mut Image, target: u32, sequence: &mut Sequence) {
+    if sequence.once_in(3) {
+        put_word(&mut image.sheet, HEAD_BODY, target);
+    } else {
+        let record = some_met(image, sequence);
+        put_next(image, record, target);
+    }
+}
+
+pub fn loop_to_self(image: &mut Image, sequence: &mut Sequence) {
+    let record = some_met(image, sequence);
+    put_next(image, record, image.shape.record_address(record));
+}
+
+/// The last record met leads back to some record met: the first, one in the middle,
+/// or itself.
+pub fn loop_back(image: &mut Image, sequence: &mut Sequence) {
+    let Some(&last) = met(image).last() else {
+        return;
+    };
+    let back = some_met(image, sequence);
+    put_next(image, last, image.shape.record_address(back));
+}
+
+pub fn empty(image: &mut Image, _: &mut Sequence) {
+    put_word(&mut image.sheet, HEAD_BODY, 0);
+}
+
+/// The chain starts at another record, allocated or free.
+pub fn change_head(image: &mut Image, sequence: &mut Sequence) {
+    let record = sequence.below(image.shape.count);
+    let address = image.shape.record_address(record);
+    put_word(&mut image.sheet, HEAD_BODY, address);
+}
+
+/// A record is passed over: its predecessor, or the head, leads to its next.
+pub fn leave_out(image: &mut Image, sequence: &mut Sequence) {
+    let met = met(image);
+    if met.is_empty() {
+        return;
+    }
+    let place = sequence.below(met.len());
+    let after = next(image, met[place]);
+    match place.checked_sub(1) {
+        None => put_word(&mut image.sheet, HEAD_BODY, after),
+        Some(before) => put_next(image, met[before], after),
+    }
+}
+
+/// A record that the chain doesn't meet is put into it, whole chain kept.
+pub fn add_allocated(image: &mut Image, sequence: &mut Sequence) {
+    let met = met(image);
+    let missing: Vec<usize> = (0..image.shape.count)
+        .filter(|record| !met.contains(record))
+        .collect();
+    if missing.is_empty() {
+        return;
+    }
+    let added = sequence.pick(&missing);
+    let address = image.shape.record_address(added);
+    let after = match sequence.below(met.len() + 1).checked_sub(1) {
+        None => {
+            let old_head = word(&image.sheet, HEAD_BODY);
+            put_word(&mut image.sheet, HEAD_BODY, address);
+            old_head
+        }
+        Some(place) => {
+            let after = next(image, met[place]);
+            put_next(image, met[place], address);
+            after
+        }
+    };
+    put_next(image, added, after);
+}

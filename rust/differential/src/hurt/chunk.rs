@@ -1,0 +1,143 @@
+//! Tags, fills, redzones, size codes and guard bytes.
+
+use crate::image::{change_byte, put_bytes, put_word, word, ALLOCATED_TAG, FREE_TAG};
+use crate::{Image, Sequence};
+
+const REDZONE: u32 = 0xfeed_face;
+const FREE_FILL: [u8; 4] = [0xde, 0xad, 0xbe, 0xef];
+
+fn some_buffer(image: &Image, sequence: &mut Sequence) -> usize {
+    sequence.below(image.shape.count)
+}
+
+/// Some buffer with a pattern, or any where none has it.
+fn some_tagged(image: &Image, tag: u32, sequence: &mut Sequence) -> usize {
+    let tagged: Vec<usize> = (0..image.shape.count)
+        .filter(|&buffer| image.tag(buffer) == tag)
+        .collect();
+    if tagged.is_empty() {
+        return some_buffer(image, sequence);
+    }
+    sequence.pick(&tagged)
+}
+
+/// T0 is any word or another record's address; the xor is then neither pattern.
+pub fn change_t0(image: &mut Image, sequence: &mut Sequence) {
+    let other = image.shape.record_address(some_buffer(image, sequence));
+    let any = sequence.word();
+    let t0 = image.t0(some_buffer(image, sequence));
+    put_word(&mut image.heap, t0, sequence.pick(&[0, any, other]));
+}
+
+/// Both tag words change, so that the xor stays a pattern.
+pub fn tag_with_other_record(image: &mut Image, sequence: &mut Sequence) {
+    let buffer = some_buffer(image, sequence);
+    let tag = image.tag(buffer);
+    let record = image.shape.record_address(some_buffer(image, sequence));
+    let named = sequence.pick(&[record, record + 4, 0, image.shape.heap_base]);
+    let (t0, t1) = (image.t0(buffer), image.t1(buffer));
+    put_word(&mut image.heap, t0, named);
+    put_word(&mut image.heap, t1, named ^ tag);
+}
+
+/// One bit of T1 changes, or all of them.
+pub fn break_tag(image: &mut Image, sequence: &mut Sequence) {
+    let t1 = image.t1(some_buffer(image, sequence));
+    let bit = 1 << sequence.below(32);
+    let broken = word(&image.heap, t1) ^ sequence.pick(&[bit, u32::MAX]);
+    put_word(&mut image.heap, t1, broken);
+}
+
+/// An allocated buffer takes the free pattern, or a free one the allocated.
+pub fn exchange_pattern(image: &mut Image, sequence: &mut Sequence) {
+    let t1 = image.t1(some_buffer(image, sequence));
+    let exchanged = word(&image.heap, t1) ^ ALLOCATED_TAG ^ FREE_TAG;
+    put_word(&mut image.heap, t1, exchanged);
+}
+
+/// The xor stays, and T0 is no record's address.
+pub fn exchange_tag_words(image: &mut Image, sequence: &mut Sequence) {
+    let buffer = some_buffer(image, sequence);
+    let (t0, t1) = (image.t0(buffer), image.t1(buffer));
+    let (first, second) = (word(&image.heap, t0), word(&image.heap, t1));
+    put_word(&mut image.heap, t0, second);
+    put_word(&mut image.heap, t1, first);
+}
+
+pub fn change_fill(image: &mut Image, sequence: &mut Sequence) {
+    let buffer = some_tagged(image, FREE_TAG, sequence);
+    for _ in 0..sequence.between(1, 3) {
+        let at = image.buffer(buffer) + sequence.below(image.shape.size);
+        change_byte(&mut image.heap, at, sequence.byte());
+    }
+}
+
+pub fn change_free_redzone(image: &mut Image, sequence: &mut Sequence) {
+    let buffer = some_tagged(image, FREE_TAG, sequence);
+    for _ in 0..sequence.between(1, 2) {
+        let at = image.r0(buffer) + sequence.below(8);
+        change_byte(&mut image.heap, at, sequence.byte());
+    }
+}
+
+/// R0 changes, or R1, which may then be a size code or none.
+pub fn change_granted_redzone(image: &mut Image, sequence: &mut Sequence) {
+    let buffer = some_tagged(image, ALLOCATED_TAG, sequence);
+    for _ in 0..sequence.between(1, 2) {
+        let at = image.r0(buffer) + sequence.below(8);
+        change_byte(&mut image.heap, at, sequence.byte());
+    }
+}
+
+/// The code of the full size, with R0 as that grant leaves it and in other ways.
+pub fn grant_full_size(image: &mut Image, sequence: &mut Sequence) {
+    let buffer = some_tagged(image, ALLOCATED_TAG, sequence);
+    let bit = 1 << sequence.below(32);
+    let r0 = sequence.pick(&[0xbbed_face, 0xbbed_face, REDZONE, 0xbbed_face ^ bit]);
+    let (r0_at, r1_at) = (image.r0(buffer), image.r1(buffer));
+    put_word(&mut image.heap, r0_at, r0);
+    put_word(&mut image.heap, r1_at, 251 * image.shape.size as u32 + 1);
+}
+
+/// R1 is a code of size 0, of a size too large, of a wrong remainder, of another size,
+/// or any word. With 17,111,423 the code is the largest there is.
+pub fn change_size_code(image: &mut Image, sequence: &mut Sequence) {
+    let size = image.shape.size as u32;
+    let another = sequence.between(1, image.shape.size) as u32;
+    let coded = sequence.pick(&[0, size + 1, 2 * size, 17_111_423, another]);
+    let wrong_remainder = 251 * another + sequence.pick(&[0, 2, 3, 125, 250]);
+    let any = sequence.word();
+    let r1 = sequence.pick(&[251 * coded + 1, wrong_remainder, 0, REDZONE, any]);
+    let at = image.r1(some_tagged(image, ALLOCATED_TAG, sequence));
+    put_word(&mut image.heap, at, r1);
+}
+
+/// The size that R1 codes, or the buffer size where it codes none.
+fn coded_size(image: &Image, buffer: usize) -> usize {
+    let size = word(&image.heap, image.r1(buffer)) as usize / 251;
+    size.min(image.shape.size)
+}
+
+pub fn change_guard(image: &mut Image, sequence: &mut Sequence) {
+    let buffer = some_tagged(image, ALLOCATED_TAG, sequence);
+    let guard = image.buffer(buffer) + coded_size(image, buffer);
+    change_byte(&mut image.heap, guard, sequence.byte());
+}
+
+/// This must not make the buffer free.
+pub fn store_fill(image: &mut Image, sequence: &mut Sequence) {
+    let buffer = some_tagged(image, ALLOCATED_TAG, sequence);
+    let start = image.buffer(buffer);
+    let fill = FREE_FILL.repeat(image.shape.size / 4);
+    let length = coded_size(image, buffer);
+    put_bytes(&mut image.heap, start, &fill[..length]);
+}
+
+/// "Bytes strictly between guard and redzone are not judged."
+pub fn change_unjudged(image: &mut Image, sequence: &mut Sequence) {
+    let buffer = some_tagged(image, ALLOCATED_TAG, sequence);
+    let start = image.buffer(buffer);
+    for offset in coded_size(image, buffer) + 1..image.shape.size {
+        put_bytes(&mut image.heap, start + offset, &[sequence.byte()]);
+    }
+}

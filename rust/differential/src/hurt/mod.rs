@@ -1,0 +1,76 @@
+//! The ways an image is hurt. Some hurts must not matter, and some do nothing to an
+//! image that an earlier hurt has cut.
+
+mod areas;
+mod bytes;
+mod chain;
+mod chunk;
+mod pairing;
+mod sheet;
+mod times;
+
+use crate::{Image, Sequence};
+
+/// One way, with its name.
+pub type Hurt = (&'static str, fn(&mut Image, &mut Sequence));
+
+/// Every way there is.
+pub const HURTS: [Hurt; 42] = [
+    ("sheet: tag", sheet::change_tag),
+    ("sheet: length of a field", sheet::change_field_length),
+    ("sheet: fields out of order", sheet::exchange_fields),
+    ("sheet: buffer size", sheet::break_size),
+    ("sheet: chunk size", sheet::break_chunk_size),
+    ("sheet: count", sheet::break_count),
+    ("sheet: heap too large", sheet::break_heap_limit),
+    ("sheet: flags", sheet::break_flags),
+    ("sheet: base", sheet::break_base),
+    ("sheet: shared addresses", sheet::share_addresses),
+    ("sheet: any cache address", sheet::change_cache),
+    ("area length", areas::change_length),
+    ("log length", areas::change_log_length),
+    ("pairing: buffer named twice", pairing::name_twice),
+    ("pairing: no buffer named", pairing::name_nothing),
+    ("pairing: names exchanged", pairing::exchange_names),
+    ("chain: cut", chain::cut),
+    ("chain: next no record", chain::leave_records),
+    ("chain: next unaligned", chain::miss_start),
+    ("chain: self-loop", chain::loop_to_self),
+    ("chain: loop back", chain::loop_back),
+    ("chain: head 0", chain::empty),
+    ("chain: other head", chain::change_head),
+    ("chain: record left out", chain::leave_out),
+    ("chain: allocated record", chain::add_allocated),
+    ("tag: other T0", chunk::change_t0),
+    (
+        "tag: other record with its pattern",
+        chunk::tag_with_other_record,
+    ),
+    ("tag: neither pattern", chunk::break_tag),
+    ("tag: other pattern", chunk::exchange_pattern),
+    ("tag: words exchanged", chunk::exchange_tag_words),
+    ("free: fill", chunk::change_fill),
+    ("free: redzone", chunk::change_free_redzone),
+    ("allocated: redzone", chunk::change_granted_redzone),
+    ("allocated: full size, any R0", chunk::grant_full_size),
+    ("allocated: size code", chunk::change_size_code),
+    ("allocated: guard byte", chunk::change_guard),
+    ("allocated: client stores the free fill", chunk::store_fill),
+    ("allocated: bytes not judged", chunk::change_unjudged),
+    ("stamp: high half", times::widen_stamp),
+    ("bytes flipped", bytes::flip),
+    ("bytes of meaning misplaced", bytes::misplace_words),
+    ("random or cut", bytes::replace),
+];
+
+/// Hurts an image in no way, one way or a few, and answers their names.
+pub fn hurt(image: &mut Image, sequence: &mut Sequence) -> Vec<&'static str> {
+    let times = sequence.pick(&[0, 1, 1, 1, 1, 2, 2, 3]);
+    let mut names = Vec::new();
+    for _ in 0..times {
+        let (name, way) = sequence.pick(&HURTS);
+        way(image, sequence);
+        names.push(name);
+    }
+    names
+}

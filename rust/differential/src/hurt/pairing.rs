@@ -1,0 +1,47 @@
+//! Records that do not each name a buffer of their own.
+
+use crate::image::{put_word, word, ADDRESS, RECORD_SIZE};
+use crate::{Image, Sequence};
+
+/// Some record's address word, by its place in the record area.
+fn some_name(image: &Image, sequence: &mut Sequence) -> usize {
+    sequence.below(image.shape.count) * RECORD_SIZE + ADDRESS
+}
+
+/// One record, or two, name what another names.
+pub fn name_twice(image: &mut Image, sequence: &mut Sequence) {
+    let other = some_name(image, sequence);
+    let address = word(&image.records, other);
+    for _ in 0..sequence.between(1, 2) {
+        let name = some_name(image, sequence);
+        put_word(&mut image.records, name, address);
+    }
+}
+
+/// A record names an address where no buffer starts.
+pub fn name_nothing(image: &mut Image, sequence: &mut Sequence) {
+    let shape = image.shape;
+    let step = shape.chunk_size() as u32;
+    let inside = sequence.between(1, shape.chunk_size() - 1) as u32;
+    let any = sequence.word();
+    let address = sequence.pick(&[
+        0,
+        u32::MAX,
+        any,
+        shape.heap_base.wrapping_sub(step),
+        shape.heap_base.wrapping_add(shape.heap_length() as u32),
+        shape.heap_base + inside,
+        shape.record_base,
+    ]);
+    let name = some_name(image, sequence);
+    put_word(&mut image.records, name, address);
+}
+
+/// Two records name each other's buffer, and the tags don't follow.
+pub fn exchange_names(image: &mut Image, sequence: &mut Sequence) {
+    let one = some_name(image, sequence);
+    let other = some_name(image, sequence);
+    let (address, other_address) = (word(&image.records, one), word(&image.records, other));
+    put_word(&mut image.records, one, other_address);
+    put_word(&mut image.records, other, address);
+}

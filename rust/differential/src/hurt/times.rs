@@ -1,0 +1,19 @@
+//! Stamps that a 32-bit uptime can't be compared with.
+
+use crate::image::{put_word, RECORD_SIZE, STAMP_HIGH};
+use crate::{Image, Sequence};
+
+/// One record's stamp, or every one, gets a non-zero high half.
+pub fn widen_stamp(image: &mut Image, sequence: &mut Sequence) {
+    let count = image.shape.count;
+    let bit = 1 << sequence.below(32);
+    let record = sequence.below(count);
+    let wide = if sequence.once_in(2) {
+        record..record + 1
+    } else {
+        0..count
+    };
+    for record in wide {
+        put_word(&mut image.records, record * RECORD_SIZE + STAMP_HIGH, bit);
+    }
+}

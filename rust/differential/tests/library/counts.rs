@@ -1,0 +1,88 @@
+//! What a run met, so that no rule goes untested unnoticed.
+
+use std::collections::BTreeMap;
+use std::fmt::{Display, Formatter, Result};
+
+use reference::Ending;
+
+/// A thing that a run can meet.
+#[derive(Clone, Copy, PartialEq, Eq, PartialOrd, Ord, Debug)]
+pub enum Met {
+    Verdict(u32),
+    /// A refusal's number and detail.
+    Refusal(u8, u8),
+    /// How a chain stops.
+    Chain(&'static str),
+    /// The end of what is lawful for a number of the sheet.
+    Extreme(&'static str, usize),
+    /// What the latest transaction was chosen from, or is.
+    Latest(&'static str),
+    Hurt(&'static str),
+}
+
+/// Every verdict there is.
+pub const VERDICTS: [Met; 12] = [
+    Met::Verdict(0),
+    Met::Verdict(1),
+    Met::Verdict(2),
+    Met::Verdict(20),
+    Met::Verdict(21),
+    Met::Verdict(22),
+    Met::Verdict(23),
+    Met::Verdict(24),
+    Met::Verdict(25),
+    Met::Verdict(26),
+    Met::Verdict(27),
+    Met::Verdict(28),
+];
+
+/// Every way a chain stops.
+pub const ENDINGS: [Met; 3] = [Met::Chain("end"), Met::Chain("broken"), Met::Chain("again")];
+
+impl Met {
+    pub fn chain(ending: Ending) -> Met {
+        Met::Chain(match ending {
+            Ending::End => "end",
+            Ending::Broken => "broken",
+            Ending::Again(_) => "again",
+        })
+    }
+}
+
+impl Display for Met {
+    fn fmt(&self, out: &mut Formatter) -> Result {
+        match self {
+            Met::Verdict(number) => write!(out, "verdict {number}"),
+            Met::Refusal(number, 0) => write!(out, "refusal {number}"),
+            Met::Refusal(number, detail) => write!(out, "refusal {number}/{detail}"),
+            Met::Chain(ending) => write!(out, "chain {ending}"),
+            Met::Extreme(what, number) => write!(out, "{what} {number}"),
+            Met::Latest(what) => write!(out, "{what}"),
+            Met::Hurt(name) => write!(out, "hurt: {name}"),
+        }
+    }
+}
+
+#[derive(Default)]
+pub struct Counts(BTreeMap<Met, usize>);
+
+impl Counts {
+    pub fn note(&mut self, met: Met) {
+        *self.0.entry(met).or_default() += 1;
+    }
+
+    pub fn note_refusal(&mut self, refusal: reference::Refusal) {
+        self.note(Met::Refusal(refusal.number, refusal.detail));
+    }
+
+    /// Prints the counts, and fails where a thing that can be met was not.
+    pub fn finish(&self, title: &str, seed: u64, wanted: &[Met]) {
+        println!("{title}, seed {seed:#x}");
+        for (met, count) in &self.0 {
+            println!("  {met}: {count}");
+        }
+        for met in wanted {
+            assert!(self.0.contains_key(met), "{title}: {met} was never met");
+        }
+    }
+}

@@ -1,0 +1,205 @@
+//! Inspect, on hurt images and on every neighbour of the dump.
+
+use std::fmt::Display;
+
+use combgallop::{inspect, inspect_answer};
+use differential::hurt::HURTS;
+use differential::samples::dump;
+use differential::{put_word, sound_image, Case, Image, Sequence};
+use reference::{chain, Finding, Refusal};
+
+use crate::counts::{Counts, Met, ENDINGS, VERDICTS};
+use crate::lent::{expected_answer, expected_refusal, Guarded, Lent};
+
+const CASES: u64 = 60_000;
+const SEED: u64 = 0x1d5b_ec71;
+
+/// The refusals that inspect can give, by the rules.
+const REFUSALS: [Met; 4] = [
+    Met::Refusal(1, 0),
+    Met::Refusal(2, 0),
+    Met::Refusal(3, 0),
+    Met::Refusal(11, 0),
+];
+
+/// The ends of what is lawful.
+const EXTREMES: [Met; 5] = [
+    Met::Extreme("buffer size", 8),
+    Met::Extreme("buffer size", 4096),
+    Met::Extreme("count", 1),
+    Met::Extreme("count", 512),
+    Met::Extreme("heap area", 65_536),
+];
+
+/// Inspects an image with room for so many numbers, by both, and answers what the
+/// reference finds.
+fn compare(
+    image: &Image,
+    room: usize,
+    sequence: &mut Sequence,
+    story: &dyn Display,
+) -> Result<Vec<Finding>, Refusal> {
+    let (sheet, heap, records) = (&image.sheet, &image.heap, &image.records);
+    let mut findings = vec![Finding::default(); room / 3];
+    let expected = reference::inspect(sheet, heap, records, &mut findings);
+    findings.truncate(expected.unwrap_or(0));
+    let pattern: Vec<u32> = (0..room as u32).map(|at| 0xa5a5_0000 + at).collect();
+    let mut expected_rows = pattern.clone();
+    for (row, finding) in expected_rows.chunks_exact_mut(3).zip(&findings) {
+        let Finding { index, verdict } = *finding;
+        row.copy_from_slice(&[index, verdict.number(), verdict.value()]);
+    }
+
+    let lent = Lent::new(image, sequence);
+    let (sheet, heap, records) = (lent.sheet.part(), lent.heap.part(), lent.records.part());
+    let mut rows = Guarded::new(&pattern, sequence);
+    let answer = inspect_answer(sheet, heap, records, rows.part_mut());
+    let count = expected.map(|count| count as u32);
+    assert_eq!(answer, expected_answer(count), "room {room}, {story}");
+    assert!(rows.holds(&expected_rows), "rows, room {room}, {story}");
+    lent.assert_as_before(image, story);
+
+    let mut rows = Guarded::new(&pattern, sequence);
+    let answer = inspect(sheet, heap, records, rows.part_mut());
+    assert_eq!(answer, expected.map_err(expected_refusal), "{story}");
+    assert!(rows.holds(&expected_rows), "rows, room {room}, {story}");
+    lent.assert_as_before(image, story);
+    expected.map(|_| findings)
+}
+
+/// Mostly the exact room or more, now and then less.
+fn some_room(image: &Image, sequence: &mut Sequence) -> usize {
+    let exact = 3 * image.shape.count;
+    match sequence.below(12) {
+        0 => sequence.below(exact),
+        1 => exact - 1,
+        2..=5 => exact,
+        _ => exact + sequence.between(1, 40),
+    }
+}
+
+fn note(counts: &mut Counts, image: &Image, found: Result<Vec<Finding>, Refusal>) {
+    let findings = match found {
+        Ok(findings) => findings,
+        Err(refusal) => return counts.note_refusal(refusal),
+    };
+    for finding in findings {
+        counts.note(Met::Verdict(finding.verdict.number()));
+    }
+    let walked = chain(&image.sheet, &image.heap, &image.records);
+    let ending = walked.expect("an image inspected has a chain").ending;
+    counts.note(Met::chain(ending));
+    let numbers = [
+        Met::Extreme("buffer size", image.shape.size),
+        Met::Extreme("count", image.shape.count),
+        Met::Extreme("heap area", image.heap.len()),
+    ];
+    for number in numbers.iter().filter(|number| EXTREMES.contains(number)) {
+        counts.note(*number);
+    }
+}
+
+#[test]
+fn hurt_images() {
+    let mut counts = Counts::default();
+    for number in 0..CASES {
+        let (case, mut sequence) = Case::new(SEED, number);
+        let room = some_room(&case.image, &mut sequence);
+        let found = compare(&case.image, room, &mut sequence, &case);
+        note(&mut counts, &case.image, found);
+        for name in case.hurts {
+            counts.note(Met::Hurt(name));
+        }
+    }
+    let hurts: Vec<Met> = HURTS.iter().map(|&(name, _)| Met::Hurt(name)).collect();
+    let wanted = [&VERDICTS[..], &ENDINGS, &REFUSALS, &EXTREMES, &hurts].concat();
+    counts.finish("inspect, hurt images", SEED, &wanted);
+}
+
+/// What the images are made from: a hurt would mean little if these had faults.
+#[test]
+fn sound_images_have_no_fault() {
+    let mut sequence = Sequence::new(SEED);
+    for number in 0..2_000 {
+        let image = sound_image(&mut sequence);
+        let room = 3 * image.shape.count;
+        let found = compare(&image, room, &mut sequence, &image);
+        let findings = found.expect("a sound image is not refused");
+        let faults = findings.iter().filter(|row| row.verdict.number() >= 20);
+        assert_eq!(faults.count(), 0, "sound image {number}: {image}");
+    }
+}
+
+/// Each byte of the dump's sheet, heap and records, changed to each other value; with
+/// its allocated buffer as it is, granted whole, and granted at full size.
+#[test]
+fn neighbours_of_the_dump() {
+    let mut sequence = Sequence::new(SEED);
+    let mut counts = Counts::default();
+    for redzone in [
+        [0xfeed_face, 0x139d],
+        [0xfeed_face; 2],
+        [0xbbed_face, 0x1789],
+    ] {
+        let mut image = dump();
+        let (r0, r1) = (image.r0(1), image.r1(1));
+        put_word(&mut image.heap, r0, redzone[0]);
+        put_word(&mut image.heap, r1, redzone[1]);
+        let lengths = [image.sheet.len(), image.heap.len(), image.records.len()];
+        for (area, length) in lengths.into_iter().enumerate() {
+            for at in 0..length {
+                compare_values(&mut image, area, at, &mut sequence, &mut counts);
+            }
+        }
+    }
+    counts.finish("inspect, neighbours of the dump", SEED, &VERDICTS[..3]);
+}
+
+/// Every value of one byte; the byte is then as it was.
+fn compare_values(
+    image: &mut Image,
+    area: usize,
+    at: usize,
+    sequence: &mut Sequence,
+    counts: &mut Counts,
+) {
+    let stood = *byte(image, area, at);
+    for value in 0..=255 {
+        *byte(image, area, at) = value;
+        let found = compare(image, 10, sequence, image);
+        note(counts, image, found);
+    }
+    *byte(image, area, at) = stood;
+}
+
+/// A byte of the sheet, the heap or the records, areas 0, 1 and 2.
+fn byte(image: &mut Image, area: usize, at: usize) -> &mut u8 {
+    match area {
+        0 => &mut image.sheet[at],
+        1 => &mut image.heap[at],
+        _ => &mut image.records[at],
+    }
+}
+
+/// Every small R1 of the dump's allocated buffer, past the code of its buffer size,
+/// with R0 of either grant and with the guard byte everywhere.
+#[test]
+fn every_small_size_code() {
+    let mut sequence = Sequence::new(SEED);
+    let mut counts = Counts::default();
+    let mut image = dump();
+    let (r0_at, r1_at) = (image.r0(1), image.r1(1));
+    for fill in [0xbb, 0xba] {
+        image.heap[40..64].fill(fill);
+        for r0 in [0xfeed_face, 0xbbed_face] {
+            put_word(&mut image.heap, r0_at, r0);
+            for r1 in 0..7_000 {
+                put_word(&mut image.heap, r1_at, r1);
+                let found = compare(&image, 9, &mut sequence, &image);
+                note(&mut counts, &image, found);
+            }
+        }
+    }
+    let wanted = [Met::Verdict(2), Met::Verdict(27), Met::Verdict(28)];
+    counts.finish("inspect, every small size code", SEED, &wanted);
+}

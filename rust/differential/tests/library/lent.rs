@@ -1,0 +1,95 @@
+//! What a call is lent, between guards that it must not touch.
+
+use std::fmt::Display;
+use std::hint::black_box;
+
+use combgallop::{Answer, Refusal};
+use differential::{Image, Sequence};
+
+const GUARD: u8 = 0xc3;
+
+/// A part lent to a call, with guards before and after it in the same allocation.
+pub struct Guarded<T> {
+    all: Vec<T>,
+    start: usize,
+    length: usize,
+}
+
+impl<T: Copy + PartialEq + From<u8>> Guarded<T> {
+    /// The guards' lengths differ from time to time, and so does the part's alignment.
+    pub fn new(part: &[T], sequence: &mut Sequence) -> Guarded<T> {
+        let guard = T::from(GUARD);
+        let start = sequence.between(1, 16);
+        let mut all = vec![guard; start];
+        all.extend_from_slice(part);
+        all.resize(all.len() + sequence.between(1, 16), guard);
+        Guarded {
+            all,
+            start,
+            length: part.len(),
+        }
+    }
+
+    pub fn part(&self) -> &[T] {
+        &self.all[self.start..self.start + self.length]
+    }
+
+    pub fn part_mut(&mut self) -> &mut [T] {
+        &mut self.all[self.start..self.start + self.length]
+    }
+
+    /// Whether the part is as expected and the guards are as they were.
+    pub fn holds(&self, expected: &[T]) -> bool {
+        // What was lent for reading alone might have been changed all the same, so the
+        // compiler is to look, not to infer.
+        let all = black_box(&self.all);
+        let (before, rest) = all.split_at(self.start);
+        let (part, after) = rest.split_at(self.length);
+        let guard = T::from(GUARD);
+        part == expected && before.iter().chain(after).all(|item| *item == guard)
+    }
+}
+
+/// The areas and the log of an image, as a call is lent them.
+pub struct Lent {
+    pub sheet: Guarded<u8>,
+    pub heap: Guarded<u8>,
+    pub records: Guarded<u8>,
+    pub log: Guarded<u8>,
+}
+
+impl Lent {
+    pub fn new(image: &Image, sequence: &mut Sequence) -> Lent {
+        Lent {
+            sheet: Guarded::new(&image.sheet, sequence),
+            heap: Guarded::new(&image.heap, sequence),
+            records: Guarded::new(&image.records, sequence),
+            log: Guarded::new(&image.log, sequence),
+        }
+    }
+
+    /// No call that reads changes a byte of these.
+    pub fn assert_as_before(&self, image: &Image, story: &dyn Display) {
+        assert!(self.sheet.holds(&image.sheet), "sheet changed: {story}");
+        assert!(self.heap.holds(&image.heap), "heap changed: {story}");
+        let records_stay = self.records.holds(&image.records);
+        assert!(records_stay, "records changed: {story}");
+        assert!(self.log.holds(&image.log), "log changed: {story}");
+    }
+}
+
+/// The answer that the library must give where the reference gives this.
+pub fn expected_answer(value: Result<u32, reference::Refusal>) -> Answer {
+    Answer(match value {
+        Ok(value) => u64::from(value) << 32,
+        Err(refusal) => u64::from(refusal.number) | u64::from(refusal.detail) << 8,
+    })
+}
+
+/// The reference's refusal, as the library's type has it.
+pub fn expected_refusal(refusal: reference::Refusal) -> Refusal {
+    Refusal {
+        number: refusal.number,
+        detail: refusal.detail,
+    }
+}

@@ -1,0 +1,118 @@
+//! The report, on hurt images and with every room for it.
+
+use std::fmt::Display;
+
+use combgallop::{report, report_answer};
+use differential::samples::dump;
+use differential::{Case, Image, Sequence};
+use reference::{chain, Refusal};
+
+use crate::counts::{Counts, Met, ENDINGS, VERDICTS};
+use crate::lent::{expected_answer, expected_refusal, Guarded, Lent};
+
+const CASES: u64 = 60_000;
+const SEED: u64 = 0x3c84_a90d;
+
+/// The refusals that report can give, by the rules.
+const REFUSALS: [Met; 4] = [
+    Met::Refusal(1, 0),
+    Met::Refusal(2, 0),
+    Met::Refusal(3, 0),
+    Met::Refusal(11, 0),
+];
+
+/// Asks both for the report with so many bytes of room, and answers the reference's
+/// text.
+fn compare(
+    image: &Image,
+    room: usize,
+    sequence: &mut Sequence,
+    story: &dyn Display,
+) -> Result<String, Refusal> {
+    let pattern: Vec<u8> = (0..room).map(|at| at as u8 | 0x80).collect();
+    let (sheet, heap, records) = (&image.sheet, &image.heap, &image.records);
+    let mut expected_output = pattern.clone();
+    let expected = reference::report(sheet, heap, records, &image.log, &mut expected_output);
+
+    let lent = Lent::new(image, sequence);
+    let (sheet, heap, records) = (lent.sheet.part(), lent.heap.part(), lent.records.part());
+    let log = lent.log.part();
+    let mut output = Guarded::new(&pattern, sequence);
+    let answer = report_answer(sheet, heap, records, log, output.part_mut());
+    let length = expected.map(|length| length as u32);
+    assert_eq!(answer, expected_answer(length), "room {room}, {story}");
+    assert!(output.holds(&expected_output), "output, {room}, {story}");
+    lent.assert_as_before(image, story);
+
+    let mut output = Guarded::new(&pattern, sequence);
+    let answer = report(sheet, heap, records, log, output.part_mut());
+    assert_eq!(answer, expected.map_err(expected_refusal), "{story}");
+    assert!(output.holds(&expected_output), "output, {room}, {story}");
+    lent.assert_as_before(image, story);
+    let text = String::from_utf8_lossy(&expected_output[..expected.unwrap_or(0)]).into_owned();
+    expected.map(|_| text)
+}
+
+/// The exact need, more, one byte less, or anything less.
+fn some_room(image: &Image, sequence: &mut Sequence) -> usize {
+    let text = reference::report_text(&image.sheet, &image.heap, &image.records, &image.log);
+    let exact = text.map_or(64, |text| text.len());
+    match sequence.below(12) {
+        0 => sequence.below(exact),
+        1 => exact - 1,
+        2..=5 => exact,
+        6 => 16_384,
+        _ => exact + sequence.between(1, 40),
+    }
+}
+
+/// The verdict that a buffer's line tells, none for the report's other lines.
+fn told_verdict(line: &str) -> Option<u32> {
+    match *line.split(' ').collect::<Vec<_>>() {
+        [_, "free"] => Some(0),
+        [_, "whole"] => Some(1),
+        [_, "allocated", _] => Some(2),
+        [_, "fault", number] | [_, "fault", number, _] => number.parse().ok(),
+        _ => None,
+    }
+}
+
+fn note(counts: &mut Counts, image: &Image, found: Result<String, Refusal>) {
+    let text = match found {
+        Ok(text) => text,
+        Err(refusal) => return counts.note_refusal(refusal),
+    };
+    for verdict in text.lines().filter_map(told_verdict) {
+        counts.note(Met::Verdict(verdict));
+    }
+    let walked = chain(&image.sheet, &image.heap, &image.records);
+    let ending = walked.expect("an image reported has a chain").ending;
+    counts.note(Met::chain(ending));
+}
+
+#[test]
+fn hurt_images() {
+    let mut counts = Counts::default();
+    for number in 0..CASES {
+        let (case, mut sequence) = Case::new(SEED, number);
+        let room = some_room(&case.image, &mut sequence);
+        let found = compare(&case.image, room, &mut sequence, &case);
+        note(&mut counts, &case.image, found);
+    }
+    let wanted = [&VERDICTS[..], &ENDINGS, &REFUSALS].concat();
+    counts.finish("report, hurt images", SEED, &wanted);
+}
+
+/// Every room from none to more than enough, for the dump.
+#[test]
+fn every_room() {
+    let mut sequence = Sequence::new(SEED);
+    let mut counts = Counts::default();
+    let image = dump();
+    for room in 0..200 {
+        let found = compare(&image, room, &mut sequence, &image);
+        assert_eq!(found.is_ok(), room >= 64, "room {room}");
+        note(&mut counts, &image, found);
+    }
+    counts.finish("report, every room", SEED, &[Met::Refusal(11, 0)]);
+}
