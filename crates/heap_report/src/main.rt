@@ -7,9 +7,6 @@ use image::sheet::Lengths;
 use libc::STDIN_FILENO;
 use libc::STDOUT_FILENO;
 use report::answer;
-use report::answer::Reported;
-use report::text;
-use report::text::Written;
 
 // Writes the first n bytes of a text to standard output.
 fn write_out(text: &[u8], n: usize)
@@ -26,19 +23,11 @@ fn read_in(space: &mut [u8], n: usize) -> usize
     io::read_full(STDIN_FILENO, &mut space[..n])
 }
 
-// Writes the report of what was read, or the line of its refusal.
+// Writes the answer to what was read.
 fn tell(sheet: &[u8], heap: &[u8], records: &[u8], log: &[u8]) {
     let mut output = [0u8; 65535];
-    let told = answer::report(sheet, heap, records, log, &mut output);
-    match told {
-        Reported::Length(n) => write_out(&output, n),
-        Reported::Refused(why) => {
-            let line = text::write_refusal(why, &mut output);
-            if let Written::Length(n) = line {
-                write_out(&output, n);
-            }
-        }
-    }
+    let n = answer::answer(sheet, heap, records, log, &mut output);
+    write_out(&output, n);
 }
 
 // The same of the first bytes of three spaces.

@@ -11,9 +11,9 @@ use Rattle.words.specs.Age.{ageOf}
 use Rattle.tags.specs.Tag.{stateWord, patternOf, patternWord}
 use Rattle.tags.specs.SizeCode.{decodedOf}
 use Rattle.tags.specs.Chunk.{chunkOf, tagAt}
-use Rattle.tags.specs.Judge.{chunkVerdict, freeVerdict, allocatedVerdict, zoneVerdict, sizedVerdict}
+use Rattle.tags.specs.Judge.{freeVerdict, allocatedVerdict, zoneVerdict, sizedVerdict}
 use Rattle.tags.specs.Verdict.{verdictNumber, verdictValue}
-use Rattle.tags.specs.Checks.{Check, tagged, judged, aged, Holds, AllHold, checks, freeWith, allocatedWith}
+use Rattle.tags.specs.Checks.{chunkVerdict, Check, tagged, judged, aged, Holds, AllHold, checks, freeWith, allocatedWith}
 use Rattle.tags.proofs.Laws.{and-true}
 
 abbrev test : Check → Bool

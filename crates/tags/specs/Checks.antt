@@ -6,12 +6,17 @@ use lib.Bits.{bitXor}
 use lib.ListN.{set}
 use Rattle.words.specs.Run.{repeated}
 use Rattle.words.specs.Age.{ageOf}
-use Rattle.tags.specs.Tag.{stateWord}
-use Rattle.tags.specs.Chunk.{redzone, freeFill, grantFill, guard, chunkOf}
-use Rattle.tags.specs.Judge.{chunkVerdict}
+use Rattle.tags.specs.Tag.{stateWord, patternOf}
+use Rattle.tags.specs.Chunk.{redzone, freeFill, grantFill, guard, chunkOf, tagAt}
+use Rattle.tags.specs.Judge.{ofPattern}
 use Rattle.tags.specs.Verdict.{verdictNumber, verdictValue}
+use Rattle.tags.specs.declared.verdict.Verdict.{Verdict}
 use Rattle.tags.specs.declared.tag.State.{State}
 use Rattle.tags.specs.declared.tag.State.the-variants as state
+
+-- the verdict on a chunk by its own bytes: the rules of its tag's pattern
+unfoldable pub chunkVerdict : List ℕ → Verdict
+chunkVerdict c = ofPattern (patternOf (tagAt c)) c
 
 -- two tag words and the state whose pattern their xor is; a chunk with the number and the value of its verdict; a time, two stamps and their ages, of which the second is later
 pub data Check : Type 0 where

@@ -7,9 +7,8 @@ use Rattle.words.specs.Word.{part, numberAt, bytesOf}
 use Rattle.words.specs.Run.{pick, repeated, difference}
 use Rattle.words.specs.declared.run.Difference.{Difference}
 use Rattle.words.specs.declared.run.Difference.the-variants.{At, Nowhere}
-use Rattle.tags.specs.Chunk.{redzone, freeFill, guard, bufferSize, tagAt}
+use Rattle.tags.specs.Chunk.{redzone, freeFill, guard, bufferSize}
 use Rattle.tags.specs.SizeCode.{decodedOf}
-use Rattle.tags.specs.Tag.{patternOf}
 use Rattle.tags.specs.declared.size_code.Decoded.{Decoded}
 use Rattle.tags.specs.declared.size_code.Decoded.the-variants as decoded
 use Rattle.tags.specs.declared.tag.Pattern.{Pattern}
@@ -61,6 +60,3 @@ abbrev pub ofPattern : Pattern → List ℕ → Verdict
 ofPattern pattern.Neither c = BadTag
 ofPattern pattern.Free c = freeVerdict c
 ofPattern pattern.Allocated c = allocatedVerdict c
-
-unfoldable pub chunkVerdict : List ℕ → Verdict
-chunkVerdict c = ofPattern (patternOf (tagAt c)) c

@@ -4,11 +4,10 @@ ghost use Prim.Native.Nat.{_≤_, _<_};
 ghost use lib.ListN.{length};
 ghost use Rattle.words.specs.Word.{bytesOf};
 ghost use Rattle.tags.specs.Chunk.{ChunkLength, bufferSize};
-ghost use Rattle.tags.specs.Judge.{zoneVerdict, sizedVerdict, freeVerdict, allocatedVerdict, chunkVerdict};
+ghost use Rattle.tags.specs.Judge.{zoneVerdict, sizedVerdict, freeVerdict, allocatedVerdict};
 use crate::chunk;
 use crate::size_code;
 use crate::size_code::Decoded;
-use crate::tag::Pattern;
 use crate::verdict::Verdict;
 use words::run;
 use words::run::Difference;
@@ -77,18 +76,5 @@ pub fn judge_allocated(chunk: &[u8]) -> Verdict
     match code {
         Decoded::Bad => Verdict::BadSizeCode,
         Decoded::Size(s) => judge_sized(chunk, s),
-    }
-}
-
-// The verdict on a chunk, by its own bytes.
-pub fn judge(chunk: &[u8]) -> Verdict
-    requires { ⌜ ChunkLength (length (now chunk)) ⌝ }
-    ensures { λ r. ⌜ r ≡ chunkVerdict (now (chunk .entry)) ⌝ }
-{
-    let p = chunk::read_tag(chunk).pattern();
-    match p {
-        Pattern::Neither => Verdict::BadTag,
-        Pattern::Free => judge_free(chunk),
-        Pattern::Allocated => judge_allocated(chunk),
     }
 }
