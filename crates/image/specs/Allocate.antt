@@ -1,4 +1,5 @@
 -- "Allocate (size or whole, uptime, thread) takes the head record, answers its buffer's address, and the head becomes its next word." Assumes nothing.
+use mathlib.Core.Path.{_≡_}
 use mathlib.Core.Bool.{Bool, true, _&&_}
 use mathlib.Core.List.{List}
 use Prim.Native.Nat.{ℕ, _*_}
@@ -107,3 +108,8 @@ pub record Takes (s h r : ℕ) (q : Grant) (p : Spot) : Type 0 where
 abbrev pub TakenIf : ℕ → ℕ → ℕ → Grant → AllocatePlan → Type 0
 TakenIf s h r q (Take p) = Takes s h r q p
 TakenIf s h r q (Refused why) = Unit {0}
+
+-- a plan takes the buffer that it was asked about, if any
+abbrev pub SpotIf : Spot → AllocatePlan → Type 0
+SpotIf p (Take q) = q ≡ p
+SpotIf p (Refused why) = Unit {0}

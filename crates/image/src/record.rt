@@ -4,6 +4,7 @@ ghost use mathlib.Core.Path.{_≡_};
 ghost use Prim.Native.Nat.{_+_, _*_, _≤_};
 ghost use lib.ListN.{length};
 ghost use Rattle.image.specs.Record.{recordSize, recordWord};
+ghost use Rattle.image.specs.Areas.{stamped};
 use words::word;
 
 pub const SIZE: usize = 96;
@@ -25,4 +26,15 @@ pub(crate) fn read(records: &[u8], j: usize, offset: usize) -> u32
     ensures { λ r. ⌜ r ≡ recordWord (now (records .entry)) j offset ⌝ }
 {
     word::read_u32(records, j * SIZE + offset)
+}
+
+// Writes the stamp, whose high half is 0, and the thread of record j.
+pub(crate) fn stamp(records: &mut [u8], j: usize, uptime: u32, thread: u32)
+    requires { ⌜ j * recordSize + recordSize ≤ length (now records) ⌝ }
+    ensures { λ _. ⌜ now (records .exit) ≡ stamped (now (records .entry)) j uptime thread ⌝ }
+{
+    let at = j * SIZE;
+    word::write_u32(records, at + STAMP_HIGH, 0);
+    word::write_u32(records, at + STAMP_LOW, uptime);
+    word::write_u32(records, at + THREAD, thread);
 }

@@ -6,8 +6,8 @@ use borrow.Author.Needs.{needs}
 use lib.ListN.{length, take, drop}
 use Rattle.image.proofs.Sheets.{chunk-inside, chunk-small}
 use Rattle.image.proofs.Places.{place-found}
+use Rattle.image.proofs.Takings.{lent-long}
 use Rattle.image.specs.Holding.{heldChunk, heldAt, HeldIf}
-use Rattle.words.proofs.Laws.{length-part}
 use Rattle.words.specs.Word.{part}
 use Rattle.image.proofs.holding.held_at.Statement.{statement}
 use Rattle.image.proofs.holding.held_at.Tie as tie
@@ -41,18 +41,10 @@ part-held-chunk-end : tie.Need-part-held-chunk-end
 part-held-chunk-end c = let s = c .before .before .before .before .before .before .before .before in let k = chunk-inside (s .args .g) (s .pre .law) _ (found (c .before .before .before)) in let e = s .pre .heapLong in omega arith
 
 held-chunk-requires : tie.Need-held-chunk-requires
-unfolding part
 held-chunk-requires c κs =
     let p = c .before .before .before .before in
     let s = p .before .before .before .before .before in
-    let g = s .args .g in
-    let i = p .p .given .0 .0 in
-    let k = chunk-inside g (s .pre .law) i (found p) in
-    let h = s .pre .heapLong in
-    let e : i * g .chunk + g .chunk - i * g .chunk ≡ g .chunk = omega arith in (
-      ap (λ (n : ℕ). length (take n (drop (i * g .chunk) (s .args .heap .now)))) e ∙ length-part (s .args .heap .now) (i * g .chunk) (g .chunk) (omega arith),
-      (record { law = s .pre .law; heapLong = refl; recordsLong = s .pre .recordsLong }, found p),
-    )
+    (lent-long (s .args .heap .now) (length (s .args .records .now)) (s .args .g) _ (s .pre) (found p), (record { law = s .pre .law; heapLong = refl; recordsLong = s .pre .recordsLong }, found p))
 
 returns : tie.Need-returns
 unfolding heldAt
