@@ -1,7 +1,7 @@
 -- One number for each answer: bits 0 to 7 the refusal's number, 8 to 15 its detail, 32 to 63 the value. Assumes nothing.
 use Prim.Native.Nat.{ℕ, _+_, _*_}
-use Rattle.image.specs.Refusal.{refusalNumber, refusalDetail}
-use Rattle.image.specs.declared.refusal.Refusal.{Refusal}
+use Rattle.area.specs.Refusal.{refusalNumber, refusalDetail}
+use Rattle.area.specs.declared.refusal.Refusal.{Refusal}
 use Rattle.image.specs.declared.inspect.Inspected.{Inspected}
 use Rattle.image.specs.declared.inspect.Inspected.the-variants as inspected
 use Rattle.image.specs.declared.latest.Transaction.{Transaction}

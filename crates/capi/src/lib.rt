@@ -7,12 +7,12 @@ ghost use Rattle.image.specs.Inspect.{inspectOf};
 ghost use Rattle.image.specs.Latest.{latestOf};
 ghost use Rattle.capi.specs.Answer.{acceptedWord, refusedWord, inspectWord, latestWord, reportWord};
 ghost use Rattle.report.specs.Answer.{reportOf};
+use area::refusal;
+use area::refusal::Refusal;
 use image::inspect;
 use image::inspect::Inspected;
 use image::latest;
 use image::latest::Transaction;
-use image::refusal;
-use image::refusal::Refusal;
 use report::answer;
 use report::answer::Reported;
 

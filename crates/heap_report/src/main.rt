@@ -2,8 +2,8 @@
 // It reads no more than decides the answer: a sheet that is refused ends it, and of the log one byte more than is lawful.
 ghost use Prim.Native.Nat.{_≤_};
 ghost use lib.ListN.{length};
-use image::sheet;
-use image::sheet::Lengths;
+use area::sheet;
+use area::sheet::Lengths;
 use libc::STDIN_FILENO;
 use libc::STDOUT_FILENO;
 use report::answer;

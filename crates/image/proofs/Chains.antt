@@ -12,15 +12,15 @@ use lib.Dec.{eqb}
 use lib.ListN.{length, getD, set, replicate, length-set}
 use lib.Seq.{ext-getD, getD-set-same, getD-set-other}
 use Rattle.words.specs.Run.{pick}
-use Rattle.image.specs.Place.{placeOf}
-use Rattle.image.specs.Record.{recordSize}
+use Rattle.area.specs.Place.{placeOf}
+use Rattle.area.specs.Record.{recordSize, nextWord}
 use Rattle.image.specs.Chain.{occ, Chain, stop, meets, chainFrom, chainOf}
-use Rattle.image.specs.Walk.{table, mark, marksOf, unmarked, unmet, nextWord, chainAfter, ofPlace, endingAt, wordValues, Gives, Linked}
-use Rattle.image.specs.declared.place.Place.{Place}
-use Rattle.image.specs.declared.place.Place.the-variants.{At, Nowhere}
+use Rattle.image.specs.Walk.{table, mark, marksOf, unmarked, unmet, chainAfter, ofPlace, endingAt, wordValues, Gives, Linked}
+use Rattle.area.specs.declared.place.Place.{Place}
+use Rattle.area.specs.declared.place.Place.the-variants.{At, Nowhere}
 use Rattle.image.specs.declared.chain.Ending.{Ending}
 use Rattle.image.specs.declared.chain.Ending.the-variants.{End, Broken, Again}
-use Rattle.image.proofs.Places.{place-at, place-found}
+use Rattle.area.proofs.Places.{place-at, place-found}
 
 -- ---- how often a number stands in a list
 

@@ -13,14 +13,15 @@ use lib.ListN.{length, getD, set, drop, length-append, List·getD-append}
 use lib.Seq.{sets, sets-eq, getD-append-add}
 use Rattle.words.proofs.Laws.{sets-then}
 use Rattle.tags.specs.declared.verdict.Verdict.{Verdict}
-use Rattle.image.specs.Place.{placeAddress}
+use Rattle.area.specs.Place.{placeAddress}
 use Rattle.image.specs.Walk.{marksOf, mark}
 use Rattle.image.specs.Chain.{Chain, occ}
 use Rattle.image.specs.Pairing.{ownOf, ofMark, OwnIf, Paired, PairedIn}
-use Rattle.image.specs.Judge.{ownedVerdict, againAt, byOwn, chunkAt, recordAddress, bufferAddress, judged, marked, metBy, imageChain, verdictOf}
-use Rattle.image.specs.Sheet.{Lawful}
+use Rattle.image.specs.Judge.{ownedVerdict, againAt, byOwn, judged, marked, metBy, imageChain, verdictOf}
+use Rattle.area.specs.Areas.{chunkAt, recordAddress, bufferAddress}
+use Rattle.area.specs.Sheet.{Lawful}
 use Rattle.image.specs.Inspect.{rowOf, rowsOf, findingsOf, judgedBy, EndingIf, Small}
-use Rattle.image.specs.declared.sheet.Sheet.{Sheet}
+use Rattle.area.specs.declared.sheet.Sheet.{Sheet}
 use Rattle.image.specs.declared.chain.Ending.{Ending}
 use Rattle.image.specs.declared.chain.Ending.the-variants as ending
 use Rattle.image.specs.declared.inspect.Overview.{Overview}

@@ -10,12 +10,12 @@ use borrow.Author.Tests.{eq-eqb, ne-eqb, eqb-true, eqb-false}
 use lib.Dec.{eqb}
 use lib.ListN.{length, getD, set, replicate, getD-replicate}
 use lib.Seq.{getD-set-same, getD-set-other}
-use Rattle.image.specs.Place.{placeAddress}
-use Rattle.image.specs.Record.{addressWord}
+use Rattle.area.specs.Place.{placeAddress}
+use Rattle.area.specs.Record.{addressWord}
 use Rattle.image.specs.Pairing.{namers, theOne, ownOf, ofMark, noted}
 use Rattle.image.specs.declared.pairing.Own.{Own}
 use Rattle.image.specs.declared.pairing.Own.the-variants.{One, NotOne}
-use Rattle.image.proofs.Places.{same?, address-one}
+use Rattle.area.proofs.Places.{same?, address-one}
 
 -- the mark for a list of records
 abbrev pub markOf : List ℕ → ℕ

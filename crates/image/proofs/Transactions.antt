@@ -12,8 +12,8 @@ use borrow.Author.Tests.{leb-true, leb-false}
 use lib.Dec.{leb}
 use Rattle.words.specs.Run.{pick}
 use Rattle.image.specs.Latest.{rowNames, rowAge, considered, latestRow, firstBest, ChosenAt, Smallest}
-use Rattle.image.specs.declared.place.Place.{Place}
-use Rattle.image.specs.declared.place.Place.the-variants.{At, Nowhere}
+use Rattle.area.specs.declared.place.Place.{Place}
+use Rattle.area.specs.declared.place.Place.the-variants.{At, Nowhere}
 use Rattle.image.specs.declared.latest.Best.{Best}
 
 -- an index below the next is below this one or it

@@ -4,10 +4,10 @@ use mathlib.Core.List.{List, [], _∷_}
 use Prim.Native.Nat.{ℕ, zero, suc, _+_}
 use lib.Dec.{eqb}
 use Rattle.words.specs.Run.{pick}
-use Rattle.image.specs.Place.{placeOf}
-use Rattle.image.specs.Record.{recordSize, recordWord, nextAt}
-use Rattle.image.specs.declared.place.Place.{Place}
-use Rattle.image.specs.declared.place.Place.the-variants.{At, Nowhere}
+use Rattle.area.specs.Place.{placeOf}
+use Rattle.area.specs.Record.{recordSize, recordWord, nextAt}
+use Rattle.area.specs.declared.place.Place.{Place}
+use Rattle.area.specs.declared.place.Place.the-variants.{At, Nowhere}
 use Rattle.image.specs.declared.chain.Ending.{Ending}
 use Rattle.image.specs.declared.chain.Ending.the-variants.{End, Broken, Again}
 

@@ -7,14 +7,14 @@ use lib.Seq.{sets}
 use Rattle.words.specs.Run.{pick}
 use Rattle.tags.specs.Verdict.{verdictNumber, verdictValue}
 use Rattle.tags.specs.declared.verdict.Verdict.{Verdict}
-use Rattle.image.specs.Sheet.{openedOf, openedWithLog, onOpened}
+use Rattle.area.specs.Sheet.{openedOf, openedWithLog, onOpened}
 use Rattle.image.specs.Pairing.{ofMark}
 use Rattle.image.specs.Judge.{judged, marked, verdictOf, imageChain}
-use Rattle.image.specs.declared.sheet.Sheet.{Sheet}
+use Rattle.area.specs.declared.sheet.Sheet.{Sheet}
 use Rattle.image.specs.declared.chain.Ending.{Ending}
 use Rattle.image.specs.declared.chain.Ending.the-variants as ending
-use Rattle.image.specs.declared.refusal.Refusal.{Refusal}
-use Rattle.image.specs.declared.refusal.Refusal.the-variants.{ShortOutput}
+use Rattle.area.specs.declared.refusal.Refusal.{Refusal}
+use Rattle.area.specs.declared.refusal.Refusal.the-variants.{ShortOutput}
 use Rattle.image.specs.declared.inspect.Overview.{Overview}
 use Rattle.image.specs.declared.inspect.Surveyed.{Surveyed}
 use Rattle.image.specs.declared.inspect.Surveyed.the-variants as surveys

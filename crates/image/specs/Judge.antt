@@ -1,10 +1,9 @@
 -- "Verdicts, first rule that holds". Assumes nothing.
 use mathlib.Core.Bool.{Bool, true, false, _&&_, _||_, not}
 use mathlib.Core.List.{List}
-use Prim.Native.Nat.{ℕ, _+_, _*_, _<_}
+use Prim.Native.Nat.{ℕ}
 use lib.Dec.{eqb}
 use lib.ListN.{getD}
-use Rattle.words.specs.Word.{part}
 use Rattle.words.specs.Run.{pick}
 use Rattle.tags.specs.Tag.{patternOf}
 use Rattle.tags.specs.Chunk.{tagAt}
@@ -13,11 +12,10 @@ use Rattle.tags.specs.declared.tag.Pattern.{Pattern}
 use Rattle.tags.specs.declared.tag.Pattern.the-variants as pattern
 use Rattle.tags.specs.declared.verdict.Verdict.{Verdict}
 use Rattle.tags.specs.declared.verdict.Verdict.the-variants.{NotOneRecord, BadTag, FreedTwice, OffChain, OnChain}
-use Rattle.image.specs.Place.{placeAddress}
-use Rattle.image.specs.Record.{recordSize}
+use Rattle.area.specs.Areas.{bufferAddress, chunkAt, recordAddress}
 use Rattle.image.specs.Chain.{Chain, occ, chainOf}
 use Rattle.image.specs.Pairing.{ownOf}
-use Rattle.image.specs.declared.sheet.Sheet.{Sheet}
+use Rattle.area.specs.declared.sheet.Sheet.{Sheet}
 use Rattle.image.specs.declared.chain.Ending.{Ending}
 use Rattle.image.specs.declared.chain.Ending.the-variants.{End, Broken, Again}
 use Rattle.image.specs.declared.pairing.Own.{Own}
@@ -65,16 +63,6 @@ againAt (Again i) j = eqb i j
 abbrev pub byOwn : Own → (ℕ → Verdict) → Verdict
 byOwn (One j) f = f j
 byOwn NotOne f = NotOneRecord
-
--- the address and the chunk of buffer i, and the address of record j
-abbrev pub bufferAddress : Sheet → ℕ → ℕ
-bufferAddress g i = placeAddress (g .heap) (g .chunk) i
-
-abbrev pub chunkAt : Sheet → List ℕ → ℕ → List ℕ
-chunkAt g heap i = part heap (i * g .chunk) (g .chunk)
-
-abbrev pub recordAddress : Sheet → ℕ → ℕ
-recordAddress g j = placeAddress (g .records) recordSize j
 
 -- the verdict on buffer i, given its own record, which records the chain met, and how it ends
 unfoldable pub judged : List ℕ → Sheet → ℕ → Own → (ℕ → Bool) → Ending → Verdict

@@ -10,17 +10,17 @@ use Rattle.words.specs.Word.{part, numberAt}
 use Rattle.words.specs.Run.{pick}
 use Rattle.words.specs.Age.{ageOf}
 use Rattle.tags.specs.declared.verdict.Verdict.the-variants.{NotOneRecord}
-use Rattle.image.specs.Record.{recordSize, recordWord, stampHighAt, stampLowAt}
-use Rattle.image.specs.Sheet.{openedWithLog, onOpened}
+use Rattle.area.specs.Record.{recordSize, recordWord, stampHighAt, stampLowAt}
+use Rattle.area.specs.Sheet.{openedWithLog, onOpened}
 use Rattle.image.specs.Pairing.{ownOf}
-use Rattle.image.specs.Judge.{bufferAddress, recordAddress}
-use Rattle.image.specs.declared.sheet.Sheet.{Sheet}
-use Rattle.image.specs.declared.place.Place.{Place}
-use Rattle.image.specs.declared.place.Place.the-variants as place
+use Rattle.area.specs.Areas.{bufferAddress, recordAddress}
+use Rattle.area.specs.declared.sheet.Sheet.{Sheet}
+use Rattle.area.specs.declared.place.Place.{Place}
+use Rattle.area.specs.declared.place.Place.the-variants as place
 use Rattle.image.specs.declared.pairing.Own.{Own}
 use Rattle.image.specs.declared.pairing.Own.the-variants.{One, NotOne}
-use Rattle.image.specs.declared.refusal.Refusal.{Refusal}
-use Rattle.image.specs.declared.refusal.Refusal.the-variants.{NoSuchBuffer, Damage, WideStamp}
+use Rattle.area.specs.declared.refusal.Refusal.{Refusal}
+use Rattle.area.specs.declared.refusal.Refusal.the-variants.{NoSuchBuffer, Damage, WideStamp}
 use Rattle.image.specs.declared.latest.Best.{Best}
 use Rattle.image.specs.declared.latest.Transaction.{Transaction}
 use Rattle.image.specs.declared.latest.Transaction.the-variants.{Row, Record, Refused}

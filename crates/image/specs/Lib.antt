@@ -1,17 +1,6 @@
-pub mod Refusal
-pub mod Place
-pub mod Record
-pub mod Sheet
 pub mod Chain
 pub mod Walk
 pub mod Pairing
 pub mod Judge
 pub mod Inspect
 pub mod Latest
-pub mod Areas
-pub mod Layout
-pub mod Allocate
-pub mod Holding
-pub mod Free
-pub mod Store
-pub mod Show

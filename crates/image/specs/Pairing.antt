@@ -5,8 +5,8 @@ use Prim.Native.Nat.{ℕ, zero, suc, _+_, _-_, _<_}
 use lib.Dec.{eqb}
 use lib.ListN.{getD}
 use Rattle.words.specs.Run.{pick}
-use Rattle.image.specs.Place.{placeAddress}
-use Rattle.image.specs.Record.{addressWord}
+use Rattle.area.specs.Place.{placeAddress}
+use Rattle.area.specs.Record.{addressWord}
 use Rattle.image.specs.declared.pairing.Own.{Own}
 use Rattle.image.specs.declared.pairing.Own.the-variants.{One, NotOne}
 

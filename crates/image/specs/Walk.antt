@@ -5,11 +5,11 @@ use Prim.Native.Nat.{ℕ, zero, suc, _+_, _/_, _%_, _<_}
 use lib.Dec.{eqb}
 use lib.ListN.{length}
 use Rattle.words.specs.Run.{pick}
-use Rattle.image.specs.Place.{placeAddress, placeOf}
-use Rattle.image.specs.Record.{recordSize, recordWord, nextAt}
+use Rattle.area.specs.Place.{placeAddress, placeOf}
+use Rattle.area.specs.Record.{recordSize, nextWord}
 use Rattle.image.specs.Chain.{occ, Chain, chainFrom}
-use Rattle.image.specs.declared.place.Place.{Place}
-use Rattle.image.specs.declared.place.Place.the-variants.{At, Nowhere}
+use Rattle.area.specs.declared.place.Place.{Place}
+use Rattle.area.specs.declared.place.Place.the-variants.{At, Nowhere}
 use Rattle.image.specs.declared.chain.Ending.{Ending}
 use Rattle.image.specs.declared.chain.Ending.the-variants.{End, Broken, Again}
 
@@ -35,10 +35,6 @@ unmarked (suc m) k = k
 unfoldable pub unmet : List ℕ → ℕ
 unmet [] = 0
 unmet (m ∷ l) = unmarked m (unmet l)
-
--- the next word of record j
-abbrev pub nextWord : List ℕ → ℕ → ℕ
-nextWord records j = recordWord records j nextAt
 
 -- the chain from the word w, where the records `seen` are met already
 unfoldable pub chainAfter : List ℕ → ℕ → ℕ → List ℕ → ℕ → Chain

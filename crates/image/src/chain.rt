@@ -2,12 +2,12 @@
 ghost use mathlib.Core.Path.{_≡_};
 ghost use Prim.Native.Nat.{_+_, _*_, _≤_};
 ghost use lib.ListN.{length, replicate};
-ghost use Rattle.image.specs.Record.{recordSize};
+ghost use Rattle.area.specs.Record.{recordSize};
 ghost use Rattle.image.specs.Chain.{chainOf};
 ghost use Rattle.image.specs.Walk.{marksOf, unmet, wordValues, WalkOf};
-use crate::place;
-use crate::place::Place;
-use crate::record;
+use area::place;
+use area::place::Place;
+use area::record;
 
 // How a chain ends: at 0, at a word that is no record's address, or at a record that it has met already.
 pub enum Ending {

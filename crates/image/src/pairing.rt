@@ -2,11 +2,11 @@
 ghost use mathlib.Core.Path.{_≡_};
 ghost use Prim.Native.Nat.{_+_, _*_, _≤_, _<_};
 ghost use lib.ListN.{length, getD, replicate};
-ghost use Rattle.image.specs.Record.{recordSize};
+ghost use Rattle.area.specs.Record.{recordSize};
 ghost use Rattle.image.specs.Pairing.{noted, ofMark, Paired};
-use crate::place;
-use crate::place::Place;
-use crate::record;
+use area::place;
+use area::place::Place;
+use area::record;
 
 // A buffer's own record: the one record that names the buffer. Where none or several do, it has none.
 pub enum Own {

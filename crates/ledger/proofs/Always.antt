@@ -9,17 +9,17 @@ use borrow.Author.Tests.{leb-true}
 use lib.Dec.{leb}
 use lib.ListN.{length}
 use Rattle.tags.specs.declared.chunk.Grant.{Grant}
-use Rattle.image.specs.Place.{placeOf}
-use Rattle.image.specs.Walk.{nextWord}
-use Rattle.image.specs.Judge.{bufferAddress, recordAddress}
-use Rattle.image.specs.Layout.{laidAreas}
-use Rattle.image.specs.Allocate.{lawfulSize}
-use Rattle.image.specs.Free.{sameGrant}
-use Rattle.image.specs.Store.{storedAreas}
-use Rattle.image.specs.declared.sheet.Sheet.{Sheet}
-use Rattle.image.specs.declared.place.Place.{Place}
-use Rattle.image.specs.declared.place.Place.the-variants as place
-use Rattle.image.proofs.Places.{address-one, place-found}
+use Rattle.area.specs.Place.{placeOf}
+use Rattle.area.specs.Record.{nextWord}
+use Rattle.area.specs.Areas.{bufferAddress, recordAddress}
+use Rattle.heap.specs.Layout.{laidAreas}
+use Rattle.heap.specs.Allocate.{lawfulSize}
+use Rattle.heap.specs.Free.{sameGrant}
+use Rattle.heap.specs.Store.{storedAreas}
+use Rattle.area.specs.declared.sheet.Sheet.{Sheet}
+use Rattle.area.specs.declared.place.Place.{Place}
+use Rattle.area.specs.declared.place.Place.the-variants as place
+use Rattle.area.proofs.Places.{address-one, place-found}
 use Rattle.ledger.specs.Ledger.{Loan, Call, allocate, free, store, put, grantSize, fresh, laidOver, World, opened, step, run}
 use Rattle.ledger.proofs.Counts.{total, total-change, total-none, put-same, put-other, range}
 use Rattle.ledger.proofs.State.{Laid, outs, Holds, chunk-some}

@@ -7,10 +7,10 @@ use Prim.Native.Nat.{ℕ, zero, suc, _+_, _≤_, _<_}
 use native.Mathlib.Decide.{ℕ-discrete}
 use native.Mathlib.Omega.{arith}
 use borrow.Author.Tests.{eq-eqb, ne-eqb}
-use Rattle.image.specs.Place.{placeAddress, placeOf}
+use Rattle.area.specs.Place.{placeAddress, placeOf}
 use Rattle.image.specs.Chain.{occ}
-use Rattle.image.specs.declared.place.Place.the-variants.{Nowhere}
-use Rattle.image.proofs.Places.{address-one, place-missed}
+use Rattle.area.specs.declared.place.Place.the-variants.{Nowhere}
+use Rattle.area.proofs.Places.{address-one, place-missed}
 use Rattle.image.proofs.Chains.{occ-none, occ-here, occ-apart}
 use Rattle.ledger.specs.Ledger.{Loan, put}
 

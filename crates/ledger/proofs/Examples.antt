@@ -11,18 +11,18 @@ use Rattle.tags.specs.SizeCode.{codeOf, decodedOf}
 use Rattle.tags.specs.Chunk.{grantFill, chunkOf, freeChunk, grantedChunk, tagAt}
 use Rattle.tags.specs.Judge.{freeVerdict, zoneVerdict, sizedVerdict, allocatedVerdict}
 use Rattle.tags.specs.declared.chunk.Grant.the-variants as grant
-use Rattle.image.specs.Areas.{Areas, stamped}
-use Rattle.image.specs.Sheet.{fieldIs, shaped, sheetOf, sizesLawful, basesLawful, lawful, measured, numbered, openedOf}
-use Rattle.image.specs.Place.{placeOf}
-use Rattle.image.specs.Record.{recordWord}
-use Rattle.image.specs.Layout.{flat, linkTo, sheetBytes, recordBytes, laidAreas, laidSheet, layOutOf}
-use Rattle.image.specs.Allocate.{takenChunk, takenHead, takenOf, allocatePlan, grantedAreas, allocateOf}
-use Rattle.image.specs.Holding.{heldChunk, heldAt, heldOf}
-use Rattle.image.specs.Free.{freePlan, freedAreas, freeOf}
-use Rattle.image.specs.Store.{storePlan, storedAreas, storeOf}
-use Rattle.image.specs.declared.refusal.Refusal.the-variants.{NoSuchBuffer, NoRoom, BadSize, OtherGrant}
-use Rattle.image.specs.declared.refusal.Outcome.the-variants as outcome
-use Rattle.image.specs.declared.allocate.Allocated.the-variants as allocated
+use Rattle.area.specs.Areas.{Areas, stamped}
+use Rattle.area.specs.Sheet.{fieldIs, shaped, sheetOf, sizesLawful, basesLawful, lawful, measured, numbered, openedOf}
+use Rattle.area.specs.Place.{placeOf}
+use Rattle.area.specs.Record.{recordWord}
+use Rattle.heap.specs.Layout.{flat, linkTo, sheetBytes, recordBytes, laidAreas, laidSheet, layOutOf}
+use Rattle.heap.specs.Allocate.{takenChunk, takenHead, takenOf, allocatePlan, grantedAreas, allocateOf}
+use Rattle.heap.specs.Holding.{heldChunk, heldAt, heldOf}
+use Rattle.heap.specs.Free.{freePlan, freedAreas, freeOf}
+use Rattle.heap.specs.Store.{storePlan, storedAreas, storeOf}
+use Rattle.area.specs.declared.refusal.Refusal.the-variants.{NoSuchBuffer, NoRoom, BadSize, OtherGrant}
+use Rattle.area.specs.declared.refusal.Outcome.the-variants as outcome
+use Rattle.heap.specs.declared.allocate.Allocated.the-variants as allocated
 use Rattle.ledger.specs.Ledger.{Call, allocate, free, store, Answer, resultOf, put, World, opened, run, Sound}
 use Rattle.ledger.proofs.Theorem.{theorem}
 

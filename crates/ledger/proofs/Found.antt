@@ -17,15 +17,15 @@ use Rattle.tags.specs.declared.chunk.Grant.{Grant}
 use Rattle.tags.specs.declared.chunk.Grant.the-variants as grant
 use Rattle.tags.specs.declared.verdict.Verdict.{Verdict}
 use Rattle.tags.proofs.Laws.{tag-pattern}
-use Rattle.image.specs.Areas.{Areas}
-use Rattle.image.specs.Record.{addressWord}
+use Rattle.area.specs.Areas.{Areas, bufferAddress, recordAddress}
+use Rattle.area.specs.Record.{addressWord}
 use Rattle.image.specs.Chain.{occ}
 use Rattle.image.specs.Pairing.{namers, theOne, ownOf}
-use Rattle.image.specs.Judge.{bufferAddress, recordAddress, chainedVerdict, ownedVerdict, judged, imageChain, verdictOf}
-use Rattle.image.specs.declared.sheet.Sheet.{Sheet}
+use Rattle.image.specs.Judge.{chainedVerdict, ownedVerdict, judged, imageChain, verdictOf}
+use Rattle.area.specs.declared.sheet.Sheet.{Sheet}
 use Rattle.image.specs.declared.chain.Ending.the-variants.{End}
 use Rattle.image.specs.declared.pairing.Own.the-variants.{One}
-use Rattle.image.proofs.Places.{address-one}
+use Rattle.area.proofs.Places.{address-one}
 use Rattle.image.proofs.Chains.{linked-chain}
 use Rattle.ledger.specs.Ledger.{Loan, headed, asGranted, asNoted, foundAllocated}
 use Rattle.ledger.proofs.Chunks.{chunkFor, stateFor, LawfulLoan, tag-for, granted-verdict, free-sound}

@@ -14,16 +14,15 @@ use Rattle.words.specs.Run.{pick}
 use Rattle.words.proofs.Laws.{part-part, part-left, part-right, part-all, part-front, length-bytesOf}
 use Rattle.tags.specs.Chunk.{freeChunk}
 use Rattle.tags.proofs.Laws.{length-freeChunk}
-use Rattle.image.specs.Areas.{Areas, refusedWith}
-use Rattle.image.specs.Sheet.{lawful, lengthsRight}
-use Rattle.image.specs.Record.{recordWord, addressWord}
-use Rattle.image.specs.Walk.{nextWord, Linked}
-use Rattle.image.specs.Judge.{bufferAddress, recordAddress}
-use Rattle.image.specs.Layout.{flat, linkTo, laidSheet, recordBytes, laidAreas, layOutOf}
-use Rattle.image.specs.declared.sheet.Sheet.{Sheet}
-use Rattle.image.specs.declared.refusal.Refusal.the-variants.{BadSheet, BadNumber, BadLength}
-use Rattle.image.specs.declared.refusal.Outcome.the-variants.{Done, Refused}
-use Rattle.image.proofs.Sheets.{lawful-known, buffer-word}
+use Rattle.area.specs.Areas.{Areas, refusedWith, bufferAddress, recordAddress}
+use Rattle.area.specs.Sheet.{lawful, lengthsRight}
+use Rattle.area.specs.Record.{recordWord, addressWord, nextWord}
+use Rattle.image.specs.Walk.{Linked}
+use Rattle.heap.specs.Layout.{flat, linkTo, laidSheet, recordBytes, laidAreas, layOutOf}
+use Rattle.area.specs.declared.sheet.Sheet.{Sheet}
+use Rattle.area.specs.declared.refusal.Refusal.the-variants.{BadSheet, BadNumber, BadLength}
+use Rattle.area.specs.declared.refusal.Outcome.the-variants.{Done, Refused}
+use Rattle.area.proofs.Sheets.{lawful-known, buffer-word}
 use Rattle.ledger.proofs.Runs.{length-flat, part-flat}
 use Rattle.ledger.proofs.Chunks.{word-back}
 use Rattle.ledger.proofs.Counts.{range, occ-within, occ-above}

@@ -9,18 +9,17 @@ use native.Mathlib.Decide.{decLt}
 use native.Mathlib.Omega.{arith}
 use lib.ListN.{length}
 use Rattle.words.proofs.Laws.{below}
-use Rattle.image.specs.Areas.{Areas}
-use Rattle.image.specs.Sheet.{heapLength, recordsLength, lawful, Lawful, openedOf}
-use Rattle.image.specs.Place.{placeOf}
-use Rattle.image.specs.Record.{addressWord}
+use Rattle.area.specs.Areas.{Areas, bufferAddress, recordAddress, chunkAt}
+use Rattle.area.specs.Sheet.{heapLength, recordsLength, lawful, Lawful, openedOf}
+use Rattle.area.specs.Place.{placeOf}
+use Rattle.area.specs.Record.{addressWord, nextWord}
 use Rattle.image.specs.Chain.{occ}
-use Rattle.image.specs.Walk.{nextWord, Linked}
-use Rattle.image.specs.Judge.{bufferAddress, recordAddress, chunkAt}
-use Rattle.image.specs.Layout.{sheetBytes}
-use Rattle.image.specs.declared.sheet.Sheet.{Sheet}
-use Rattle.image.specs.declared.sheet.Opened.the-variants.{Image}
-use Rattle.image.specs.declared.place.Place.the-variants.{Nowhere}
-use Rattle.image.proofs.Sheets.{record-word}
+use Rattle.image.specs.Walk.{Linked}
+use Rattle.heap.specs.Layout.{sheetBytes}
+use Rattle.area.specs.declared.sheet.Sheet.{Sheet}
+use Rattle.area.specs.declared.sheet.Opened.the-variants.{Image}
+use Rattle.area.specs.declared.place.Place.the-variants.{Nowhere}
+use Rattle.area.proofs.Sheets.{record-word}
 use Rattle.ledger.specs.Ledger.{Loan, headed}
 use Rattle.ledger.proofs.Chunks.{chunkFor, LawfulLoan}
 use Rattle.ledger.proofs.Sheets.{Fits, sheet-opens}

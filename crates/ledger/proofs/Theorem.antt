@@ -10,19 +10,19 @@ use native.Mathlib.Omega.{arith}
 use Rattle.words.specs.Word.{part}
 use Rattle.tags.specs.Verdict.{verdictNumber}
 use Rattle.tags.specs.declared.chunk.Grant.{Grant}
-use Rattle.image.specs.Areas.{Areas, Result}
+use Rattle.area.specs.Areas.{Areas, Result, bufferAddress}
 use Rattle.image.specs.Chain.{Chain, occ}
 use Rattle.image.specs.Pairing.{ownOf}
-use Rattle.image.specs.Judge.{bufferAddress, imageChain, verdictOf}
-use Rattle.image.specs.Layout.{laidSheet}
-use Rattle.image.specs.Allocate.{lawfulSize, allocateOf}
-use Rattle.image.specs.Show.{shownOf}
-use Rattle.image.specs.declared.sheet.Sheet.{Sheet}
+use Rattle.image.specs.Judge.{imageChain, verdictOf}
+use Rattle.heap.specs.Layout.{laidSheet}
+use Rattle.heap.specs.Allocate.{lawfulSize, allocateOf}
+use Rattle.heap.specs.Show.{shownOf}
+use Rattle.area.specs.declared.sheet.Sheet.{Sheet}
 use Rattle.image.specs.declared.pairing.Own.the-variants.{One}
-use Rattle.image.specs.declared.refusal.Refusal.the-variants.{NoRoom}
-use Rattle.image.specs.declared.allocate.Allocated.{Allocated}
-use Rattle.image.specs.declared.allocate.Allocated.the-variants as allocated
-use Rattle.image.specs.declared.show.Shown.the-variants as shown
+use Rattle.area.specs.declared.refusal.Refusal.the-variants.{NoRoom}
+use Rattle.heap.specs.declared.allocate.Allocated.{Allocated}
+use Rattle.heap.specs.declared.allocate.Allocated.the-variants as allocated
+use Rattle.heap.specs.declared.show.Shown.the-variants as shown
 use Rattle.image.proofs.Chains.{occ-none}
 use Rattle.ledger.specs.Ledger.{Loan, World, headed, timesMet, isOut, Sound, Claim}
 use Rattle.ledger.proofs.State.{Laid, outs, Holds, opens}

@@ -17,26 +17,26 @@ use Rattle.tags.specs.declared.chunk.Grant.{Grant}
 use Rattle.tags.specs.declared.chunk.Grant.the-variants as grant
 use Rattle.tags.specs.declared.verdict.Verdict.{Verdict}
 use Rattle.tags.specs.declared.verdict.Verdict.the-variants as verdict
-use Rattle.image.specs.Areas.{Areas, Result}
-use Rattle.image.specs.Sheet.{openedOf}
+use Rattle.area.specs.Areas.{Areas, Result, bufferAddress}
+use Rattle.area.specs.Sheet.{openedOf}
 use Rattle.image.specs.Chain.{occ}
 use Rattle.image.specs.Pairing.{ownOf}
-use Rattle.image.specs.Judge.{bufferAddress, imageChain, verdictOf}
-use Rattle.image.specs.Layout.{laidSheet, layOutOf}
-use Rattle.image.specs.Allocate.{lawfulSize, allocateOf}
-use Rattle.image.specs.Free.{freeOf}
-use Rattle.image.specs.Store.{storeOf}
-use Rattle.image.specs.Show.{shownOf}
-use Rattle.image.specs.declared.sheet.Sheet.{Sheet}
-use Rattle.image.specs.declared.sheet.Opened.the-variants.{Image}
+use Rattle.image.specs.Judge.{imageChain, verdictOf}
+use Rattle.heap.specs.Layout.{laidSheet, layOutOf}
+use Rattle.heap.specs.Allocate.{lawfulSize, allocateOf}
+use Rattle.heap.specs.Free.{freeOf}
+use Rattle.heap.specs.Store.{storeOf}
+use Rattle.heap.specs.Show.{shownOf}
+use Rattle.area.specs.declared.sheet.Sheet.{Sheet}
+use Rattle.area.specs.declared.sheet.Opened.the-variants.{Image}
 use Rattle.image.specs.declared.chain.Ending.the-variants.{End}
 use Rattle.image.specs.declared.pairing.Own.the-variants.{One}
-use Rattle.image.specs.declared.refusal.Refusal.the-variants.{NoRoom, NotAllocated}
-use Rattle.image.specs.declared.refusal.Outcome.{Outcome}
-use Rattle.image.specs.declared.refusal.Outcome.the-variants as outcome
-use Rattle.image.specs.declared.allocate.Allocated.{Allocated}
-use Rattle.image.specs.declared.allocate.Allocated.the-variants as allocated
-use Rattle.image.specs.declared.show.Shown.the-variants as shown
+use Rattle.area.specs.declared.refusal.Refusal.the-variants.{NoRoom, NotAllocated}
+use Rattle.area.specs.declared.refusal.Outcome.{Outcome}
+use Rattle.area.specs.declared.refusal.Outcome.the-variants as outcome
+use Rattle.heap.specs.declared.allocate.Allocated.{Allocated}
+use Rattle.heap.specs.declared.allocate.Allocated.the-variants as allocated
+use Rattle.heap.specs.declared.show.Shown.the-variants as shown
 
 -- ---- the calls
 

@@ -12,20 +12,20 @@ use lib.ListN.{length, getD}
 use lib.Seq.{sets}
 use Rattle.words.specs.Run.{pick}
 use Rattle.tags.specs.Verdict.{verdictNumber, verdictValue}
-use Rattle.image.specs.Sheet.{openedWithLog, onOpened}
+use Rattle.area.specs.Sheet.{openedWithLog, onOpened}
 use Rattle.image.specs.Judge.{verdictOf, imageChain}
 use Rattle.image.specs.Inspect.{findingsOf, surveyed, Surveying, surveyOf}
-use Rattle.image.specs.declared.sheet.Sheet.{Sheet}
-use Rattle.image.specs.declared.sheet.Opened.{Opened}
+use Rattle.area.specs.declared.sheet.Sheet.{Sheet}
+use Rattle.area.specs.declared.sheet.Opened.{Opened}
 use Rattle.image.specs.declared.inspect.Overview.{Overview}
-use Rattle.image.specs.declared.refusal.Refusal.{Refusal}
-use Rattle.image.specs.declared.refusal.Refusal.the-variants.{ShortOutput}
-use Rattle.image.proofs.Sheets.{logged-law}
+use Rattle.area.specs.declared.refusal.Refusal.{Refusal}
+use Rattle.area.specs.declared.refusal.Refusal.the-variants.{ShortOutput}
+use Rattle.area.proofs.Sheets.{logged-law}
 use Rattle.image.proofs.Findings.{finding}
 use Rattle.report.specs.Text.{textOf, linesOf, faultsIn, rowNumber, rowValue, writtenOf, outputOf}
 use Rattle.report.specs.Answer.{reportText, Reporting, reportOf}
 use Rattle.report.specs.declared.answer.Reported.the-variants.{Length, Refused}
-use Rattle.image.specs.declared.sheet.Opened.the-variants as opened
+use Rattle.area.specs.declared.sheet.Opened.the-variants as opened
 use Rattle.image.specs.declared.inspect.Surveyed.the-variants as surveys
 use Rattle.report.specs.declared.text.Written.the-variants as written
 

@@ -6,12 +6,12 @@ use lib.ListN.{length}
 use lib.Seq.{sets}
 use Rattle.words.specs.Run.{pick}
 use Rattle.tags.specs.Verdict.{verdictNumber, verdictValue}
-use Rattle.image.specs.Sheet.{openedWithLog, onOpened}
+use Rattle.area.specs.Sheet.{openedWithLog, onOpened}
 use Rattle.image.specs.Judge.{verdictOf, imageChain}
-use Rattle.image.specs.Refusal.{refusalNumber}
-use Rattle.image.specs.declared.sheet.Sheet.{Sheet}
-use Rattle.image.specs.declared.refusal.Refusal.{Refusal}
-use Rattle.image.specs.declared.refusal.Refusal.the-variants.{ShortOutput}
+use Rattle.area.specs.Refusal.{refusalNumber}
+use Rattle.area.specs.declared.sheet.Sheet.{Sheet}
+use Rattle.area.specs.declared.refusal.Refusal.{Refusal}
+use Rattle.area.specs.declared.refusal.Refusal.the-variants.{ShortOutput}
 use Rattle.report.specs.Text.{textOf, refusalLineOf, writtenOf, outputOf}
 use Rattle.report.specs.declared.text.Written.{Written}
 use Rattle.report.specs.declared.text.Written.the-variants as written

@@ -5,9 +5,9 @@ ghost use lib.ListN.{length};
 ghost use Rattle.report.specs.Answer.{reportOf, ReportedIf, answerOf};
 use crate::text;
 use crate::text::Written;
+use area::refusal::Refusal;
 use image::inspect;
 use image::inspect::Surveyed;
-use image::refusal::Refusal;
 
 // How long the report is, or why there is none.
 pub enum Reported {

@@ -5,10 +5,10 @@ ghost use mathlib.Core.List.{_++_};
 ghost use Prim.Native.Nat.{_+_, _*_, _^_, _≤_, _<_};
 ghost use lib.ListN.{length};
 ghost use Rattle.report.specs.Text.{decimalOf, headerOf, hasOffset, lineOf, chainLineOf, faultOf, faultsOf, rowNumber, rowValue, textOf, Wrote, writtenOf, outputOf, WrittenIf, refusalLineOf};
-ghost use Rattle.image.specs.Refusal.{refusalNumber};
+ghost use Rattle.area.specs.Refusal.{refusalNumber};
+use area::refusal;
+use area::refusal::Refusal;
 use image::chain::Ending;
-use image::refusal;
-use image::refusal::Refusal;
 
 // How long the text is, where the output has room for it.
 pub enum Written {

@@ -8,13 +8,13 @@ use borrow.Author.Needs.{needs}
 use borrow.Fn.Kinds.{In}
 use borrow.Fn.PlainCycle.{Measures, is, falls, and}
 use lib.ListN.{length, set, length-set}
-use Rattle.image.specs.Place.{placeOf}
-use Rattle.image.specs.Record.{recordSize}
+use Rattle.area.specs.Place.{placeOf}
+use Rattle.area.specs.Record.{recordSize}
 use Rattle.image.specs.Chain.{meets}
 use Rattle.image.specs.Walk.{unmet, chainAfter}
-use Rattle.image.specs.declared.place.Place.the-variants.{At, Nowhere}
+use Rattle.area.specs.declared.place.Place.the-variants.{At, Nowhere}
 use Rattle.image.specs.declared.chain.Ending.the-variants.{End, Broken, Again}
-use Rattle.image.proofs.Places.{place-found}
+use Rattle.area.proofs.Places.{place-found}
 use Rattle.image.proofs.Chains.{chain-end, chain-broken, chain-again, chain-meets, is-met, not-met, marks-set, unmet-set, ending-end, ending-place, gives-stop, gives-meets}
 use Rattle.image.proofs.chain.+walk.{statement}
 use Rattle.image.proofs.chain.+walk.Tie.{close}
@@ -22,8 +22,8 @@ use Rattle.image.proofs.chain.walk.Reads as walk
 use Rattle.image.proofs.chain.walk.Kinds as walk-kinds
 use Rattle.image.proofs.chain.+walk.Lts-walk as walk-lts
 use Rattle.image.proofs.chain.pack.Reads as pack-reads
-use Rattle.image.proofs.place.find.Reads as find-reads
-use Rattle.image.proofs.record.read.Reads as read-reads
+use Rattle.area.proofs.place.find.Reads as find-reads
+use Rattle.area.proofs.record.read.Reads as read-reads
 use denote.Ref.{now}
 
 abbrev μ-walk : Measures 3 walk-kinds.ps ℕ

@@ -7,7 +7,7 @@ use borrow.Author.Needs.{needs}
 use lib.ListN.{length}
 use Rattle.image.specs.Chain.{chainOf}
 use Rattle.image.specs.Walk.{marksOf, endingAt, wordValues}
-use Rattle.image.specs.declared.place.Place.the-variants.{At, Nowhere}
+use Rattle.area.specs.declared.place.Place.the-variants.{At, Nowhere}
 use Rattle.image.proofs.Chains.{length-marks, unmet-most, marks-none, ending-end, ending-place, gives-all}
 use Rattle.image.proofs.chain.walk_from.Statement.{statement}
 use Rattle.image.proofs.chain.walk_from.Tie as tie

@@ -5,7 +5,7 @@ use borrow.Author.Tests.{le-leb, lt-leb}
 use borrow.Author.Needs.{needs}
 use lib.ListN.{length}
 use Rattle.image.specs.Inspect.{inspectOf}
-use Rattle.image.specs.Sheet.{Open, OpenedIf}
+use Rattle.area.specs.Sheet.{Open, OpenedIf}
 use Rattle.image.proofs.inspect.inspect.Statement.{statement}
 use Rattle.image.proofs.inspect.inspect.Tie as tie
 

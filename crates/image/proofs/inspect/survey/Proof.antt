@@ -6,7 +6,7 @@ use borrow.Author.Needs.{needs}
 use lib.ListN.{length}
 use Rattle.image.proofs.Findings.{survey-small}
 use Rattle.image.specs.Inspect.{surveyOf}
-use Rattle.image.specs.Sheet.{Open, LoggedIf}
+use Rattle.area.specs.Sheet.{Open, LoggedIf}
 use Rattle.image.proofs.inspect.survey.Statement.{statement}
 use Rattle.image.proofs.inspect.survey.Tie as tie
 

@@ -5,12 +5,13 @@ use native.Mathlib.Omega.{arith}
 use borrow.Author.Needs.{needs}
 use lib.ListN.{take, drop}
 use Rattle.image.specs.Pairing.{OwnIf}
-use Rattle.image.specs.Judge.{ownedVerdict, marked, recordAddress, judged}
+use Rattle.image.specs.Judge.{ownedVerdict, marked, judged}
+use Rattle.area.specs.Areas.{recordAddress}
 use Rattle.words.specs.Word.{part}
 use Rattle.tags.specs.Chunk.{ChunkLength}
-use Rattle.image.specs.Sheet.{heapLength}
-use Rattle.image.specs.declared.sheet.Sheet.{Sheet}
-use Rattle.image.proofs.Sheets.{chunk-inside, chunk-small, record-small, record-word, chunk-length}
+use Rattle.area.specs.Sheet.{heapLength}
+use Rattle.area.specs.declared.sheet.Sheet.{Sheet}
+use Rattle.area.proofs.Sheets.{chunk-inside, chunk-small, record-small, record-word, chunk-length}
 use Rattle.image.proofs.judge.judge_buffer.Statement.{statement}
 use Rattle.image.proofs.judge.judge_buffer.Tie as tie
 

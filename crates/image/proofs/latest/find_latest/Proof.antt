@@ -2,7 +2,7 @@
 use mathlib.Core.Path.{refl, subst}
 use borrow.Author.Needs.{needs}
 use Rattle.image.specs.Latest.{latestOf}
-use Rattle.image.specs.Sheet.{LoggedIf}
+use Rattle.area.specs.Sheet.{LoggedIf}
 use Rattle.image.proofs.latest.find_latest.Statement.{statement}
 use Rattle.image.proofs.latest.find_latest.Tie as tie
 

@@ -6,7 +6,7 @@ use borrow.Author.Tests.{eq-eqb, ne-eqb}
 use borrow.Author.Needs.{needs}
 use lib.ListN.{length}
 use Rattle.image.proofs.Transactions.{row-below}
-use Rattle.image.proofs.Sheets.{record-inside}
+use Rattle.area.proofs.Sheets.{record-inside}
 use Rattle.image.specs.declared.latest.Best.{Best}
 use Rattle.image.specs.Latest.{ownedLatest}
 use Rattle.image.proofs.latest.latest_owned.Statement.{statement}

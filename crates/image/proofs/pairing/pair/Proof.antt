@@ -6,10 +6,10 @@ use native.Mathlib.Numerals.{add-one}
 use native.Mathlib.Omega.{arith}
 use borrow.Author.Needs.{needs}
 use lib.ListN.{length, set, length-set, length-replicate}
-use Rattle.image.specs.Place.{placeAddress}
-use Rattle.image.specs.Record.{addressWord}
+use Rattle.area.specs.Place.{placeAddress}
+use Rattle.area.specs.Record.{addressWord}
 use Rattle.image.specs.Pairing.{ownOf}
-use Rattle.image.proofs.Places.{place-found, place-missed}
+use Rattle.area.proofs.Places.{place-found, place-missed}
 use Rattle.image.proofs.Pairs.{Marks, marks-none, marks-hit, marks-miss, marks-all}
 use Rattle.image.proofs.pairing.pair.Statement.{statement}
 use Rattle.image.proofs.pairing.pair.Tie as tie

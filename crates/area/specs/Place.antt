@@ -1,0 +1,20 @@
+-- Which place of an area an address is. Assumes nothing.
+use Prim.Native.Nat.{ℕ, zero, suc, _+_, _*_}
+use lib.Dec.{eqb}
+use Rattle.words.specs.Run.{pick}
+use Rattle.area.specs.declared.place.Place.{Place}
+use Rattle.area.specs.declared.place.Place.the-variants.{At, Nowhere}
+
+-- the address of place i, of places of `stride` bytes from `base` on
+abbrev pub placeAddress : ℕ → ℕ → ℕ → ℕ
+placeAddress base stride i = base + i * stride
+
+-- the place, of the first n, whose address is the word w
+unfoldable pub placeOf : ℕ → ℕ → ℕ → ℕ → Place
+placeOf base stride zero w = Nowhere
+placeOf base stride (suc i) w = pick (eqb w (placeAddress base stride i)) (At i) (placeOf base stride i w)
+
+-- by the place that a word is the address of
+abbrev pub placed : {A : Type 0} → Place → (ℕ → A) → A → A
+placed (At i) f none = f i
+placed Nowhere f none = none

@@ -1,0 +1,34 @@
+-- The words of a record: "n records of 96 bytes .. : next at 0, buffer address 4, .. timestamp 16 (eight bytes), thread 24". Assumes nothing.
+use mathlib.Core.List.{List}
+use Prim.Native.Nat.{ℕ, _+_, _*_}
+use Rattle.words.specs.Word.{numberAt}
+
+abbrev pub recordSize : ℕ
+recordSize = 96
+
+abbrev pub nextAt : ℕ
+nextAt = 0
+
+abbrev pub bufferAt : ℕ
+bufferAt = 4
+
+abbrev pub stampHighAt : ℕ
+stampHighAt = 16
+
+abbrev pub stampLowAt : ℕ
+stampLowAt = 20
+
+abbrev pub threadAt : ℕ
+threadAt = 24
+
+-- the word at an offset of record j
+unfoldable pub recordWord : List ℕ → ℕ → ℕ → ℕ
+recordWord records j offset = numberAt 4 records (j * recordSize + offset)
+
+-- the next word of record j
+abbrev pub nextWord : List ℕ → ℕ → ℕ
+nextWord records j = recordWord records j nextAt
+
+-- the address word of record j: the buffer that it names
+abbrev pub addressWord : List ℕ → ℕ → ℕ
+addressWord records j = recordWord records j bufferAt

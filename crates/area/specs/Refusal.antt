@@ -1,0 +1,36 @@
+-- "Refusal numbers and their order": the number and the detail of each refusal. Assumes nothing.
+use Prim.Native.Nat.{ℕ}
+use Rattle.tags.specs.Verdict.{verdictNumber}
+use Rattle.area.specs.declared.refusal.Refusal.{Refusal}
+use Rattle.area.specs.declared.refusal.Refusal.the-variants.{BadSheet, BadNumber, BadLength, NoSuchBuffer, NoRoom, BadSize, Damage, BrokenHead, NotAllocated, OtherGrant, PastClient, ShortOutput, WideStamp}
+
+abbrev pub refusalNumber : Refusal → ℕ
+refusalNumber BadSheet = 1
+refusalNumber BadNumber = 2
+refusalNumber BadLength = 3
+refusalNumber NoSuchBuffer = 4
+refusalNumber NoRoom = 5
+refusalNumber BadSize = 6
+refusalNumber (Damage v) = 7
+refusalNumber BrokenHead = 7
+refusalNumber NotAllocated = 8
+refusalNumber OtherGrant = 9
+refusalNumber PastClient = 10
+refusalNumber ShortOutput = 11
+refusalNumber WideStamp = 12
+
+-- "damage met; detail is the verdict number, or 29 for a broken head"; "its number and detail (0 except for 7)"
+abbrev pub refusalDetail : Refusal → ℕ
+refusalDetail BadSheet = 0
+refusalDetail BadNumber = 0
+refusalDetail BadLength = 0
+refusalDetail NoSuchBuffer = 0
+refusalDetail NoRoom = 0
+refusalDetail BadSize = 0
+refusalDetail (Damage v) = verdictNumber v
+refusalDetail BrokenHead = 29
+refusalDetail NotAllocated = 0
+refusalDetail OtherGrant = 0
+refusalDetail PastClient = 0
+refusalDetail ShortOutput = 0
+refusalDetail WideStamp = 0

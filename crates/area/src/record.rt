@@ -1,0 +1,40 @@
+// The words of a record: next at 0, the buffer's address at 4, the stamp's high half at 16 and its low half at 20, the
+// thread at 24.
+ghost use mathlib.Core.Path.{_≡_};
+ghost use Prim.Native.Nat.{_+_, _*_, _≤_};
+ghost use lib.ListN.{length};
+ghost use Rattle.area.specs.Record.{recordSize, recordWord};
+ghost use Rattle.area.specs.Areas.{stamped};
+use words::word;
+
+pub const SIZE: usize = 96;
+
+pub const NEXT: usize = 0;
+
+pub const BUFFER: usize = 4;
+
+pub const STAMP_HIGH: usize = 16;
+
+pub const STAMP_LOW: usize = 20;
+
+pub const THREAD: usize = 24;
+
+// The word at an offset of record j.
+pub fn read(records: &[u8], j: usize, offset: usize) -> u32
+    requires { ⌜ j * recordSize + recordSize ≤ length (now records) ⌝ }
+    requires { ⌜ offset + 4 ≤ recordSize ⌝ }
+    ensures { λ r. ⌜ r ≡ recordWord (now (records .entry)) j offset ⌝ }
+{
+    word::read_u32(records, j * SIZE + offset)
+}
+
+// Writes the stamp, whose high half is 0, and the thread of record j.
+pub fn stamp(records: &mut [u8], j: usize, uptime: u32, thread: u32)
+    requires { ⌜ j * recordSize + recordSize ≤ length (now records) ⌝ }
+    ensures { λ _. ⌜ now (records .exit) ≡ stamped (now (records .entry)) j uptime thread ⌝ }
+{
+    let at = j * SIZE;
+    word::write_u32(records, at + STAMP_HIGH, 0);
+    word::write_u32(records, at + STAMP_LOW, uptime);
+    word::write_u32(records, at + THREAD, thread);
+}

@@ -1,0 +1,77 @@
+-- "Lay out, given the cache address, bases, size and n: writes all three areas; all buffers free; buffer i paired with record i; chain 0 to n-1 in order; each
+-- record holds next, address and cache, all else 0." Assumes nothing.
+use mathlib.Core.Bool.{_&&_}
+use mathlib.Core.List.{List, [], _++_}
+use Prim.Native.Nat.{ℕ, zero, suc, _+_, _*_}
+use lib.Dec.{eqb, ltb}
+use lib.ListN.{length, replicate}
+use Rattle.words.specs.Word.{bytesOf}
+use Rattle.words.specs.Run.{pick}
+use Rattle.tags.specs.Chunk.{freeChunk}
+use Rattle.area.specs.Areas.{Areas, Result, refusedWith, bufferAddress, recordAddress}
+use Rattle.area.specs.Sheet.{lawful, lengthsRight}
+use Rattle.area.specs.declared.sheet.Sheet.{Sheet}
+use Rattle.area.specs.declared.refusal.Refusal.the-variants.{BadSheet, BadNumber, BadLength}
+use Rattle.area.specs.declared.refusal.Outcome.{Outcome}
+use Rattle.area.specs.declared.refusal.Outcome.the-variants.{Done, Refused}
+
+-- f 0, f 1, .. , f (n - 1), one after the other
+unfoldable pub flat : ℕ → (ℕ → List ℕ) → List ℕ
+flat zero f = []
+flat (suc n) f = flat n f ++ f n
+
+-- the word that leads to record i: its address, or 0 past the last
+unfoldable pub linkTo : Sheet → ℕ → ℕ
+linkTo g i = pick (ltb i (g .count)) (recordAddress g i) 0
+
+-- the numbers of the sheet: the arguments, a chunk of buffer size plus 16, the chain from record 0, and the flags
+abbrev pub laidSheet : ℕ → ℕ → ℕ → ℕ → ℕ → Sheet
+laidSheet cache heap records size n = record {
+  cache = cache;
+  heap = heap;
+  records = records;
+  size = size;
+  chunk = size + 16;
+  count = n;
+  head = records;
+  flags = 0x020f;
+}
+
+-- a tagged field: "a one-byte tag, a two-byte length, the body"
+abbrev pub field : ℕ → ℕ → ℕ → List ℕ
+field tag len body = bytesOf 1 tag ++ bytesOf 2 len ++ bytesOf len body
+
+-- the bytes of a sheet, "Tags 1 to 8 .. in order"
+unfoldable pub sheetBytes : Sheet → List ℕ
+sheetBytes g =
+    field 1 4 (g .cache)
+    ++ field 2 4 (g .heap)
+    ++ field 3 4 (g .records)
+    ++ field 4 2 (g .size)
+    ++ field 5 2 (g .chunk)
+    ++ field 6 2 (g .count)
+    ++ field 7 4 (g .head)
+    ++ field 8 2 (g .flags)
+
+-- the bytes of record i: next at 0, buffer address 4, slab 8, cache 12, and 0 up to its end
+unfoldable pub recordBytes : Sheet → ℕ → List ℕ
+recordBytes g i = bytesOf 4 (linkTo g (suc i)) ++ bytesOf 4 (bufferAddress g i) ++ bytesOf 4 0 ++ bytesOf 4 (g .cache) ++ replicate 80 0
+
+-- the areas of an image that is laid out
+unfoldable pub laidAreas : Sheet → Areas
+laidAreas g = record {
+  sheet = sheetBytes g;
+  heap = flat (g .count) (λ i. freeChunk (g .size) (recordAddress g i));
+  records = flat (g .count) (recordBytes g);
+}
+
+-- "Lay out tests only these: 1 by its sheet area's length alone, 2 on its arguments", and 3
+unfoldable pub layOutOf : Areas → ℕ → ℕ → ℕ → ℕ → ℕ → Result Outcome
+layOutOf a cache heap records size n =
+    pick (eqb (length (a .sheet)) 48)
+    (pick (lawful (laidSheet cache heap records size n))
+    (pick (lengthsRight (laidSheet cache heap records size n) (length (a .heap)) (length (a .records)))
+    (record { answer = Done; areas = laidAreas (laidSheet cache heap records size n) })
+    (refusedWith (Refused BadLength) a))
+    (refusedWith (Refused BadNumber) a))
+    (refusedWith (Refused BadSheet) a)

@@ -1,0 +1,6 @@
+pub mod Layout
+pub mod Allocate
+pub mod Holding
+pub mod Free
+pub mod Store
+pub mod Show
