@@ -1,4 +1,3 @@
-pub mod Layout
 pub mod Allocate
 pub mod Holding
 pub mod Free

@@ -1,11 +1,8 @@
-// The calls of the heap: lay out, allocate, free, store and show.
+// The calls of the heap: allocate, free, store and show.
 //
 // The layer promises: each call answers and writes what document 01 says; a call that writes is a plan, which only reads, and a
 // commit, which cannot fail, so that a refused call changes no byte. Allocate, free, store and show touch one chunk and one
 // record.
-
-// Lay out an image.
-pub mod layout;
 
 // Allocate a buffer.
 pub mod allocate;

@@ -12,7 +12,7 @@ use Rattle.tags.specs.declared.chunk.Grant.{Grant}
 use Rattle.area.specs.Place.{placeOf}
 use Rattle.area.specs.Record.{nextWord}
 use Rattle.area.specs.Areas.{bufferAddress, recordAddress}
-use Rattle.heap.specs.Layout.{laidAreas}
+use Rattle.layout.specs.Layout.{laidAreas}
 use Rattle.heap.specs.Allocate.{lawfulSize}
 use Rattle.heap.specs.Free.{sameGrant}
 use Rattle.heap.specs.Store.{storedAreas}

@@ -15,7 +15,7 @@ use Rattle.area.specs.Areas.{Areas, stamped}
 use Rattle.area.specs.Sheet.{fieldIs, shaped, sheetOf, sizesLawful, basesLawful, lawful, measured, numbered, openedOf}
 use Rattle.area.specs.Place.{placeOf}
 use Rattle.area.specs.Record.{recordWord}
-use Rattle.heap.specs.Layout.{flat, linkTo, sheetBytes, recordBytes, laidAreas, laidSheet, layOutOf}
+use Rattle.layout.specs.Layout.{flat, linkTo, sheetBytes, recordBytes, laidAreas, laidSheet, layOutOf}
 use Rattle.heap.specs.Allocate.{takenChunk, takenHead, takenOf, allocatePlan, grantedAreas, allocateOf}
 use Rattle.heap.specs.Holding.{heldChunk, heldAt, heldOf}
 use Rattle.heap.specs.Free.{freePlan, freedAreas, freeOf}

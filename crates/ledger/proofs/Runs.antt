@@ -10,7 +10,7 @@ use lib.Seq.{sets, length-sets, sets-eq, set-append-left, length-take-le, ext-ge
 use Rattle.words.specs.Word.{part}
 use Rattle.words.specs.Run.{repeated}
 use Rattle.words.proofs.Laws.{length-part, getD-part, part-left, part-right, part-all, length-repeated, getD-repeated, below}
-use Rattle.heap.specs.Layout.{flat}
+use Rattle.layout.specs.Layout.{flat}
 
 -- a run written in the first of two lists
 pub sets-left : (vs xs ys : List ℕ) (o : ℕ) → o + length vs ≤ length xs → sets (xs ++ ys) o vs ≡ sets xs o vs ++ ys

@@ -9,7 +9,7 @@ use Rattle.words.specs.Word.{part, number, bytesOf, numberAt}
 use Rattle.words.proofs.Laws.{number-bytesOf}
 use Rattle.area.specs.Areas.{withHead}
 use Rattle.area.specs.Sheet.{fieldIs, shaped, sheetOf, heapLength, recordsLength, lawful, measured, numbered, openedOf}
-use Rattle.heap.specs.Layout.{sheetBytes}
+use Rattle.layout.specs.Layout.{sheetBytes}
 use Rattle.area.specs.declared.sheet.Sheet.{Sheet}
 use Rattle.area.specs.declared.sheet.Opened.the-variants.{Image}
 use Rattle.ledger.specs.Ledger.{headed}

@@ -18,7 +18,7 @@ use Rattle.area.specs.Areas.{Areas, refusedWith, bufferAddress, recordAddress}
 use Rattle.area.specs.Sheet.{lawful, lengthsRight}
 use Rattle.area.specs.Record.{recordWord, addressWord, nextWord}
 use Rattle.image.specs.Walk.{Linked}
-use Rattle.heap.specs.Layout.{flat, linkTo, laidSheet, recordBytes, laidAreas, layOutOf}
+use Rattle.layout.specs.Layout.{flat, linkTo, laidSheet, recordBytes, laidAreas, layOutOf}
 use Rattle.area.specs.declared.sheet.Sheet.{Sheet}
 use Rattle.area.specs.declared.refusal.Refusal.the-variants.{BadSheet, BadNumber, BadLength}
 use Rattle.area.specs.declared.refusal.Outcome.the-variants.{Done, Refused}

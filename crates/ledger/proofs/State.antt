@@ -15,7 +15,7 @@ use Rattle.area.specs.Place.{placeOf}
 use Rattle.area.specs.Record.{addressWord, nextWord}
 use Rattle.image.specs.Chain.{occ}
 use Rattle.image.specs.Walk.{Linked}
-use Rattle.heap.specs.Layout.{sheetBytes}
+use Rattle.layout.specs.Layout.{sheetBytes}
 use Rattle.area.specs.declared.sheet.Sheet.{Sheet}
 use Rattle.area.specs.declared.sheet.Opened.the-variants.{Image}
 use Rattle.area.specs.declared.place.Place.the-variants.{Nowhere}

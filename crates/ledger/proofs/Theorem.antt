@@ -14,7 +14,7 @@ use Rattle.area.specs.Areas.{Areas, Result, bufferAddress}
 use Rattle.image.specs.Chain.{Chain, occ}
 use Rattle.image.specs.Pairing.{ownOf}
 use Rattle.image.specs.Judge.{imageChain, verdictOf}
-use Rattle.heap.specs.Layout.{laidSheet}
+use Rattle.layout.specs.Layout.{laidSheet}
 use Rattle.heap.specs.Allocate.{lawfulSize, allocateOf}
 use Rattle.heap.specs.Show.{shownOf}
 use Rattle.area.specs.declared.sheet.Sheet.{Sheet}

@@ -22,7 +22,7 @@ use Rattle.area.specs.Sheet.{openedOf}
 use Rattle.image.specs.Chain.{occ}
 use Rattle.image.specs.Pairing.{ownOf}
 use Rattle.image.specs.Judge.{imageChain, verdictOf}
-use Rattle.heap.specs.Layout.{laidSheet, layOutOf}
+use Rattle.layout.specs.Layout.{laidSheet, layOutOf}
 use Rattle.heap.specs.Allocate.{lawfulSize, allocateOf}
 use Rattle.heap.specs.Free.{freeOf}
 use Rattle.heap.specs.Store.{storeOf}

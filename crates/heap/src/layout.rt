@@ -1,1 +1,0 @@
-// Lay out: the sheet, the heap and the records of an image in which every buffer is free.

@@ -1,0 +1,1 @@
+// Lay out: an image in which every buffer is free.
