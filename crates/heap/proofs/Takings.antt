@@ -1,24 +1,27 @@
 -- What is known of a buffer that is taken, and what a call writes for a buffer and its record. Assumes nothing.
 use mathlib.Core.Path.{_≡_, refl, sym, ap, _∙_, subst}
-use mathlib.Core.Bool.{true}
+use mathlib.Core.Bool.{Bool, true, false}
 use mathlib.Core.List.{List, _++_}
 use Prim.Native.Nat.{ℕ, _+_, _*_, _-_, _≤_, _<_}
 use native.Mathlib.Omega.{arith}
 use borrow.Author.Tests.{leb-true}
-use lib.Dec.{leb}
+use lib.Dec.{eqb, leb}
 use lib.ListN.{length, take, drop}
 use lib.Seq.{sets}
 use Rattle.words.specs.Word.{part}
+use Rattle.words.specs.Run.{pick}
 use Rattle.words.proofs.Laws.{length-part, part-back}
 use Rattle.tags.specs.Chunk.{ChunkLength, bufferSize, LawfulGrant}
+use Rattle.tags.specs.Verdict.{verdictNumber}
 use Rattle.tags.specs.declared.chunk.Grant.{Grant}
 use Rattle.tags.specs.declared.chunk.Grant.the-variants as grant
 use Rattle.tags.specs.declared.verdict.Verdict.{Verdict}
-use Rattle.tags.specs.declared.verdict.Verdict.the-variants.{Free, Whole, Allocated, NotOneRecord, BadTag, FreedTwice, OffChain, OnChain, BadFill, BadRedzone, BadSizeCode, Overrun}
 use Rattle.tags.proofs.Laws.{and-true}
 use Rattle.area.specs.Sheet.{Open}
 use Rattle.heap.specs.Allocate.{lawfulSize, ifFree, SpotIf, Takes, TakenIf}
 use Rattle.area.specs.declared.sheet.Sheet.{Sheet}
+use Rattle.area.specs.declared.refusal.Refusal.{Refusal}
+use Rattle.area.specs.declared.refusal.Refusal.the-variants.{Damage}
 use Rattle.heap.specs.declared.allocate.Spot.{Spot}
 use Rattle.heap.specs.declared.allocate.AllocatePlan.{AllocatePlan}
 use Rattle.heap.specs.declared.allocate.AllocatePlan.the-variants.{Take, Refused}
@@ -26,19 +29,12 @@ use Rattle.area.proofs.Sheets.{chunk-inside, chunk-length}
 
 -- ---- a plan that takes a buffer
 
+spot-picked : (b : Bool) (p : Spot) (why : Refusal) → SpotIf p (pick b (Take p) (Refused why))
+spot-picked true p why = refl
+spot-picked false p why = tt
+
 pub free-spot : (v : Verdict) (p : Spot) → SpotIf p (ifFree v p)
-free-spot Free p = refl
-free-spot Whole p = tt
-free-spot (Allocated k) p = tt
-free-spot NotOneRecord p = tt
-free-spot BadTag p = tt
-free-spot FreedTwice p = tt
-free-spot OffChain p = tt
-free-spot OnChain p = tt
-free-spot (BadFill o) p = tt
-free-spot (BadRedzone o) p = tt
-free-spot BadSizeCode p = tt
-free-spot (Overrun o) p = tt
+free-spot v p = spot-picked (eqb (verdictNumber v) 0) p (Damage v)
 
 -- what is known of the buffer asked about is known of the one taken
 pub spot-taken : (s h r : ℕ) (q : Grant) (p : Spot) (a : AllocatePlan) → Takes s h r q p → SpotIf p a → TakenIf s h r q a

@@ -10,6 +10,7 @@ use Rattle.words.specs.Run.{pick}
 use Rattle.tags.specs.Tag.{patternOf}
 use Rattle.tags.specs.Chunk.{tagAt, grantedChunk, LawfulGrant}
 use Rattle.tags.specs.Judge.{freeVerdict}
+use Rattle.tags.specs.Verdict.{verdictNumber}
 use Rattle.tags.specs.declared.tag.Pattern.{Pattern}
 use Rattle.tags.specs.declared.tag.Pattern.the-variants as pattern
 use Rattle.tags.specs.declared.chunk.Grant.{Grant}
@@ -34,20 +35,9 @@ abbrev pub lawfulSize : Grant → ℕ → Bool
 lawfulSize Whole size = true
 lawfulSize (Sized s) size = leb 1 s && leb s size
 
--- "fill (25), redzone (26)": a free buffer is taken, any other verdict refuses
+-- "fill (25), redzone (26)": "Found free is verdict 0", and then the buffer is taken; any other verdict refuses
 abbrev pub ifFree : Verdict → Spot → AllocatePlan
-ifFree verdict.Free p = Take p
-ifFree verdict.Whole p = Refused (Damage verdict.Whole)
-ifFree (verdict.Allocated s) p = Refused (Damage (verdict.Allocated s))
-ifFree verdict.NotOneRecord p = Refused (Damage verdict.NotOneRecord)
-ifFree verdict.BadTag p = Refused (Damage verdict.BadTag)
-ifFree verdict.FreedTwice p = Refused (Damage verdict.FreedTwice)
-ifFree verdict.OffChain p = Refused (Damage verdict.OffChain)
-ifFree verdict.OnChain p = Refused (Damage verdict.OnChain)
-ifFree (verdict.BadFill o) p = Refused (Damage (verdict.BadFill o))
-ifFree (verdict.BadRedzone o) p = Refused (Damage (verdict.BadRedzone o))
-ifFree verdict.BadSizeCode p = Refused (Damage verdict.BadSizeCode)
-ifFree (verdict.Overrun o) p = Refused (Damage (verdict.Overrun o))
+ifFree v p = pick (eqb (verdictNumber v) 0) (Take p) (Refused (Damage v))
 
 -- "neither pattern (21), allocated pattern (24)", then the free chunk's own bytes
 abbrev pub takenBy : Pattern → List ℕ → Spot → AllocatePlan

@@ -7,6 +7,7 @@ use Rattle.words.specs.Run.{pick}
 use Rattle.tags.specs.Tag.{patternOf}
 use Rattle.tags.specs.Chunk.{tagAt, LawfulGrant}
 use Rattle.tags.specs.Judge.{allocatedVerdict}
+use Rattle.tags.specs.Verdict.{verdictNumber, verdictValue}
 use Rattle.tags.specs.declared.tag.Pattern.{Pattern}
 use Rattle.tags.specs.declared.tag.Pattern.the-variants as pattern
 use Rattle.tags.specs.declared.chunk.Grant.{Grant}
@@ -28,20 +29,11 @@ use Rattle.heap.specs.declared.holding.Held.the-variants.{Buffer, Refuse
 abbrev pub holding : Sheet → ℕ → ℕ → Grant → Held
 holding g i j q = Buffer (record { sheet = g; buffer = i; own = j; grant = q })
 
--- "7 with 27 or 28"; a chunk that is whole or allocated s is held as such
+-- "7 with 27 or 28"; "Found as granted is 1 for a whole grant and 2 with s for a grant of s bytes"
 abbrev pub heldAs : Verdict → Sheet → ℕ → ℕ → Held
-heldAs verdict.Whole g i j = holding g i j Whole
-heldAs (verdict.Allocated s) g i j = holding g i j (Sized s)
-heldAs verdict.Free g i j = Refused (Damage verdict.Free)
-heldAs verdict.NotOneRecord g i j = Refused (Damage verdict.NotOneRecord)
-heldAs verdict.BadTag g i j = Refused (Damage verdict.BadTag)
-heldAs verdict.FreedTwice g i j = Refused (Damage verdict.FreedTwice)
-heldAs verdict.OffChain g i j = Refused (Damage verdict.OffChain)
-heldAs verdict.OnChain g i j = Refused (Damage verdict.OnChain)
-heldAs (verdict.BadFill o) g i j = Refused (Damage (verdict.BadFill o))
-heldAs (verdict.BadRedzone o) g i j = Refused (Damage (verdict.BadRedzone o))
-heldAs verdict.BadSizeCode g i j = Refused (Damage verdict.BadSizeCode)
-heldAs (verdict.Overrun o) g i j = Refused (Damage (verdict.Overrun o))
+heldAs v g i j =
+    pick (eqb (verdictNumber v) 1) (holding g i j Whole)
+    (pick (eqb (verdictNumber v) 2) (holding g i j (Sized (verdictValue v))) (Refused (Damage v)))
 
 -- "or neither pattern; 8", then the allocated chunk's own bytes
 abbrev pub heldBy : Pattern → List ℕ → Sheet → ℕ → ℕ → Held

@@ -17,6 +17,7 @@ use tags::chunk;
 use tags::chunk::Grant;
 use tags::judge;
 use tags::tag::Pattern;
+use tags::verdict;
 use tags::verdict::Verdict;
 use words::word;
 
@@ -54,24 +55,14 @@ fn lawful_size(grant: Grant, size: usize) -> bool
     }
 }
 
-// A free chunk is taken, and any other verdict refuses.
+// A chunk that is found free is taken, and any other verdict refuses.
 fn if_free(v: Verdict, p: Spot) -> AllocatePlan
     ensures { λ r. ⌜ r ≡ ifFree v p ⌝ }
 {
-    match v {
-        Verdict::Free => AllocatePlan::Take(p),
-        Verdict::Whole => AllocatePlan::Refused(Refusal::Damage(Verdict::Whole)),
-        Verdict::Allocated(s) => AllocatePlan::Refused(Refusal::Damage(Verdict::Allocated(s))),
-        Verdict::NotOneRecord => AllocatePlan::Refused(Refusal::Damage(Verdict::NotOneRecord)),
-        Verdict::BadTag => AllocatePlan::Refused(Refusal::Damage(Verdict::BadTag)),
-        Verdict::FreedTwice => AllocatePlan::Refused(Refusal::Damage(Verdict::FreedTwice)),
-        Verdict::OffChain => AllocatePlan::Refused(Refusal::Damage(Verdict::OffChain)),
-        Verdict::OnChain => AllocatePlan::Refused(Refusal::Damage(Verdict::OnChain)),
-        Verdict::BadFill(o) => AllocatePlan::Refused(Refusal::Damage(Verdict::BadFill(o))),
-        Verdict::BadRedzone(o) => AllocatePlan::Refused(Refusal::Damage(Verdict::BadRedzone(o))),
-        Verdict::BadSizeCode => AllocatePlan::Refused(Refusal::Damage(Verdict::BadSizeCode)),
-        Verdict::Overrun(o) => AllocatePlan::Refused(Refusal::Damage(Verdict::Overrun(o))),
+    if verdict::number(v) == 0 {
+        return AllocatePlan::Take(p);
     }
+    AllocatePlan::Refused(Refusal::Damage(v))
 }
 
 // The last step: the chunk of the head record's buffer.

@@ -18,6 +18,7 @@ use tags::chunk;
 use tags::chunk::Grant;
 use tags::judge;
 use tags::tag::Pattern;
+use tags::verdict;
 use tags::verdict::Verdict;
 
 // An allocated buffer of an open image, its own record and its grant.
@@ -34,34 +35,28 @@ pub enum Held {
     Refused(Refusal),
 }
 
-// The grant that the verdict on an allocated chunk tells.
+// A chunk that is found whole or allocated is held as such, and any other verdict refuses.
 fn held_as(v: Verdict, g: Sheet, i: usize, j: usize) -> Held
     ensures { λ r. ⌜ r ≡ heldAs v g i j ⌝ }
 {
-    match v {
-        Verdict::Whole => Held::Buffer(Holding {
+    let n = verdict::number(v);
+    if n == 1 {
+        return Held::Buffer(Holding {
             sheet: g,
             buffer: i,
             own: j,
             grant: Grant::Whole,
-        }),
-        Verdict::Allocated(s) => Held::Buffer(Holding {
+        });
+    }
+    if n == 2 {
+        return Held::Buffer(Holding {
             sheet: g,
             buffer: i,
             own: j,
-            grant: Grant::Sized(s),
-        }),
-        Verdict::Free => Held::Refused(Refusal::Damage(Verdict::Free)),
-        Verdict::NotOneRecord => Held::Refused(Refusal::Damage(Verdict::NotOneRecord)),
-        Verdict::BadTag => Held::Refused(Refusal::Damage(Verdict::BadTag)),
-        Verdict::FreedTwice => Held::Refused(Refusal::Damage(Verdict::FreedTwice)),
-        Verdict::OffChain => Held::Refused(Refusal::Damage(Verdict::OffChain)),
-        Verdict::OnChain => Held::Refused(Refusal::Damage(Verdict::OnChain)),
-        Verdict::BadFill(o) => Held::Refused(Refusal::Damage(Verdict::BadFill(o))),
-        Verdict::BadRedzone(o) => Held::Refused(Refusal::Damage(Verdict::BadRedzone(o))),
-        Verdict::BadSizeCode => Held::Refused(Refusal::Damage(Verdict::BadSizeCode)),
-        Verdict::Overrun(o) => Held::Refused(Refusal::Damage(Verdict::Overrun(o))),
+            grant: Grant::Sized(verdict::value(v)),
+        });
     }
+    Held::Refused(Refusal::Damage(v))
 }
 
 // The last step: the chunk's pattern and its own bytes.
