@@ -4,8 +4,8 @@ use native.Mathlib.Omega.{arith}
 use borrow.Author.Needs.{needs}
 use Rattle.capi.specs.Answer.{inspectWord}
 use Rattle.image.specs.Inspect.{InspectedIf}
-use Rattle.capi.proofs.cg_inspect.Statement.{statement}
-use Rattle.capi.proofs.cg_inspect.Tie as tie
+use Rattle.capi.proofs.reader.cg_inspect.Statement.{statement}
+use Rattle.capi.proofs.reader.cg_inspect.Tie as tie
 
 inspect-requires : tie.Need-inspect-requires
 inspect-requires c κs = search needs

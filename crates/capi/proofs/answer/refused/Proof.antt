@@ -1,8 +1,8 @@
 -- The number stands below the detail, and the value is 0. Assumes nothing.
 use borrow.Author.Needs.{needs}
 use Rattle.capi.specs.Answer.{refusedWord}
-use Rattle.capi.proofs.refused.Statement.{statement}
-use Rattle.capi.proofs.refused.Tie as tie
+use Rattle.capi.proofs.answer.refused.Statement.{statement}
+use Rattle.capi.proofs.answer.refused.Tie as tie
 
 number-requires : tie.Need-number-requires
 number-requires c κs = search needs

@@ -4,8 +4,8 @@ use native.Mathlib.Omega.{arith}
 use borrow.Author.Needs.{needs}
 use Rattle.capi.specs.Answer.{reportWord}
 use Rattle.report.specs.Answer.{ReportedIf}
-use Rattle.capi.proofs.cg_report.Statement.{statement}
-use Rattle.capi.proofs.cg_report.Tie as tie
+use Rattle.capi.proofs.reader.cg_report.Statement.{statement}
+use Rattle.capi.proofs.reader.cg_report.Tie as tie
 
 report-requires : tie.Need-report-requires
 report-requires c κs = search needs

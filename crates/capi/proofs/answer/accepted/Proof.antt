@@ -1,8 +1,8 @@
 -- The value stands above 32 bits of 0. Assumes nothing.
 use borrow.Author.Needs.{needs}
 use Rattle.capi.specs.Answer.{acceptedWord}
-use Rattle.capi.proofs.accepted.Statement.{statement}
-use Rattle.capi.proofs.accepted.Tie as tie
+use Rattle.capi.proofs.answer.accepted.Statement.{statement}
+use Rattle.capi.proofs.answer.accepted.Tie as tie
 
 mul-result : tie.Need-mul-result
 mul-result c = search needs

@@ -4,8 +4,8 @@ use native.Mathlib.Omega.{arith}
 use borrow.Author.Needs.{needs}
 use Rattle.capi.specs.Answer.{latestWord}
 use Rattle.image.specs.Latest.{LatestIf}
-use Rattle.capi.proofs.cg_latest.Statement.{statement}
-use Rattle.capi.proofs.cg_latest.Tie as tie
+use Rattle.capi.proofs.reader.cg_latest.Statement.{statement}
+use Rattle.capi.proofs.reader.cg_latest.Tie as tie
 
 find-latest-requires : tie.Need-find-latest-requires
 find-latest-requires c κs = search needs
