@@ -85,14 +85,3 @@ evaluated = record {
 sound₀ : Sound (laidSheet 64 4096 8192 8 2) (world₀ calls₀)
 unfolding world₀
 sound₀ = theorem areas₀ 64 4096 8192 8 2 (lit< tt) laid₀ calls₀
-
--- P12: the fourth allocate in a fresh image of three buffers of 24 bytes
-fresh₃ : List Call → World
-fresh₃ calls = run 24 calls (opened (laidAreas (laidSheet 64 4096 8192 24 3)))
-
-three₃ : List Call
-three₃ = allocate grant.Whole 1 7 ∷ allocate grant.Whole 2 7 ∷ allocate grant.Whole 3 7 ∷ []
-
-P12 : allocateOf (fresh₃ three₃ .areas) grant.Whole 4 7 .answer ≡ allocated.Refused NoRoom
-unfolding fresh₃ three₃ run put laidAreas sheetBytes recordBytes flat linkTo part number bytesOf numberAt repeated differenceFrom tagOf patternWord patternOf codeOf decodedOf chunkOf freeChunk grantedChunk tagAt freeVerdict zoneVerdict sizedVerdict allocatedVerdict stamped fieldIs shaped sheetOf measured numbered openedOf lawful sizesLawful basesLawful placeOf recordWord takenChunk takenHead takenOf allocatePlan grantedAreas allocateOf
-P12 = refl

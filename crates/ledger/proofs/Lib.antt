@@ -10,3 +10,4 @@ pub mod Start
 pub mod Always
 pub mod Theorem
 pub mod Examples
+pub mod Checks

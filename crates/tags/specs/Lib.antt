@@ -3,4 +3,3 @@ pub mod Tag
 pub mod SizeCode
 pub mod Chunk
 pub mod Judge
-pub mod Checks

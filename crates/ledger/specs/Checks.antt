@@ -1,34 +1,53 @@
--- The checks P1 to P11 of document 01, as one table: buffer size 24. Assumes nothing.
+-- The checks P1 to P12 of document 01, as one table: buffer size 24. Assumes nothing.
 use mathlib.Core.Path.{_≡_}
 use mathlib.Core.List.{List, [], _∷_}
 use Prim.Native.Nat.{ℕ, _<_}
 use lib.Bits.{bitXor}
-use lib.ListN.{set}
+use lib.ListN.{replicate, set}
 use Rattle.words.specs.Run.{repeated}
 use Rattle.words.specs.Age.{ageOf}
 use Rattle.tags.specs.Tag.{stateWord, patternOf}
 use Rattle.tags.specs.Chunk.{redzone, freeFill, grantFill, guard, chunkOf, tagAt}
 use Rattle.tags.specs.Judge.{ofPattern}
 use Rattle.tags.specs.Verdict.{verdictNumber, verdictValue}
 use Rattle.tags.specs.declared.verdict.Verdict.{Verdict}
 use Rattle.tags.specs.declared.tag.State.{State}
 use Rattle.tags.specs.declared.tag.State.the-variants as state
+use Rattle.tags.specs.declared.chunk.Grant.the-variants as grant
+use Rattle.area.specs.Areas.{Areas, areas}
+use Rattle.area.specs.Refusal.{refusalNumber}
+use Rattle.layout.specs.Layout.{layOutOf}
+use Rattle.heap.specs.declared.allocate.Allocated.{Allocated}
+use Rattle.heap.specs.declared.allocate.Allocated.the-variants as allocated
+use Rattle.ledger.specs.Ledger.{Call, allocate, resultOf, opened, run}
 
 -- the verdict on a chunk by its own bytes: the rules of its tag's pattern
 unfoldable pub chunkVerdict : List ℕ → Verdict
 chunkVerdict c = ofPattern (patternOf (tagAt c)) c
 
--- two tag words and the state whose pattern their xor is; a chunk with the number and the value of its verdict; a time, two stamps and their ages, of which the second is later
+-- a fresh image of three buffers of 24 bytes
+unfoldable pub freshAreas : Areas
+freshAreas = layOutOf (areas (replicate 48 0) (replicate 120 0) (replicate 288 0)) 0x70039928 0x70a9add8 0x70ae31a0 24 3 .areas
+
+-- the number of the refusal of an allocate of the whole buffer, 0 where it is accepted
+abbrev pub refusedAs : Allocated → ℕ
+refusedAs (allocated.At a) = 0
+refusedAs (allocated.Refused why) = refusalNumber why
+
+-- two tag words and the state whose pattern their xor is; a chunk with the number and the value of its verdict; a time, two stamps and their ages, of which the second is later; calls
+-- made in the fresh image, and the number of the refusal of an allocate after them
 pub data Check : Type 0 where
   tagged : (t0 t1 : ℕ) → State → Check
   judged : (chunk : List ℕ) (number value : ℕ) → Check
   aged : (time first second : ℕ) (age₁ age₂ : ℕ) → Check
+  next : (calls : List Call) (number : ℕ) → Check
 
 -- what a check claims
 abbrev pub Holds : Check → Type 0
 Holds (tagged t0 t1 s) = bitXor t0 t1 ≡ stateWord s
 Holds (judged c number value) = (verdictNumber (chunkVerdict c) ≡ number) × (verdictValue (chunkVerdict c) ≡ value)
 Holds (aged time first second age₁ age₂) = (ageOf 32 time first ≡ age₁) × (ageOf 32 time second ≡ age₂) × (age₂ < age₁)
+Holds (next calls number) = refusedAs (resultOf (allocate grant.Whole 4 7) (run 24 calls (opened freshAreas) .areas) .answer) ≡ number
 
 -- every check of a list holds
 abbrev pub AllHold : List Check → Type 0
@@ -42,7 +61,7 @@ freeWith buffer t1 = chunkOf buffer redzone redzone 0x70ae3260 t1
 unfoldable pub allocatedWith : List ℕ → ℕ → ℕ → List ℕ
 allocatedWith buffer r0 r1 = chunkOf buffer r0 r1 0x70ae3200 0xd1befaed
 
--- P1 to P11, in order
+-- P1 to P12, in order
 unfoldable pub checks : List Check
 checks =
     tagged 0x70ae3260 0x8440c68e state.Free
@@ -56,4 +75,5 @@ checks =
     ∷ judged (allocatedWith (repeated 24 grantFill) 0x00edface redzone) 28 24
     ∷ judged (freeWith (set (repeated 24 freeFill) 9 0) 0x8440c68e) 25 9
     ∷ aged 0x10 0xfffffff0 8 32 8
+    ∷ next (allocate grant.Whole 1 7 ∷ allocate grant.Whole 2 7 ∷ allocate grant.Whole 3 7 ∷ []) 5
     ∷ []
