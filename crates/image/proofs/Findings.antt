@@ -14,21 +14,21 @@ use lib.Seq.{sets, sets-eq, getD-append-add}
 use Rattle.words.proofs.Laws.{sets-then}
 use Rattle.tags.specs.declared.verdict.Verdict.{Verdict}
 use Rattle.area.specs.Place.{placeAddress}
-use Rattle.image.specs.Walk.{marksOf, mark}
-use Rattle.image.specs.Chain.{Chain, occ}
-use Rattle.image.specs.Pairing.{ownOf, ofMark, OwnIf, Paired, PairedIn}
-use Rattle.image.specs.Judge.{ownedVerdict, againAt, byOwn, judged, marked, metBy, imageChain, verdictOf}
+use Rattle.verdicts.specs.Walk.{marksOf, mark}
+use Rattle.verdicts.specs.Chain.{Chain, occ}
+use Rattle.verdicts.specs.Pairing.{ownOf, ofMark, OwnIf, Paired, PairedIn}
+use Rattle.verdicts.specs.Judge.{ownedVerdict, againAt, byOwn, judged, marked, metBy, imageChain, verdictOf}
 use Rattle.area.specs.Areas.{chunkAt, recordAddress, bufferAddress}
 use Rattle.area.specs.Sheet.{Lawful}
 use Rattle.image.specs.Inspect.{rowOf, rowsOf, findingsOf, judgedBy, EndingIf, Small}
 use Rattle.area.specs.declared.sheet.Sheet.{Sheet}
-use Rattle.image.specs.declared.chain.Ending.{Ending}
-use Rattle.image.specs.declared.chain.Ending.the-variants as ending
+use Rattle.verdicts.specs.declared.chain.Ending.{Ending}
+use Rattle.verdicts.specs.declared.chain.Ending.the-variants as ending
 use Rattle.image.specs.declared.inspect.Overview.{Overview}
-use Rattle.image.specs.declared.pairing.Own.{Own}
-use Rattle.image.specs.declared.pairing.Own.the-variants.{One, NotOne}
-use Rattle.image.proofs.Chains as chains
-use Rattle.image.proofs.Pairs.{own-below}
+use Rattle.verdicts.specs.declared.pairing.Own.{Own}
+use Rattle.verdicts.specs.declared.pairing.Own.the-variants.{One, NotOne}
+use Rattle.verdicts.proofs.Chains as chains
+use Rattle.verdicts.proofs.Pairs.{own-below}
 
 -- ---- rows
 

@@ -8,11 +8,11 @@ use Rattle.words.specs.Run.{pick}
 use Rattle.tags.specs.Verdict.{verdictNumber, verdictValue}
 use Rattle.tags.specs.declared.verdict.Verdict.{Verdict}
 use Rattle.area.specs.Sheet.{openedOf, openedWithLog, onOpened}
-use Rattle.image.specs.Pairing.{ofMark}
-use Rattle.image.specs.Judge.{judged, marked, verdictOf, imageChain}
+use Rattle.verdicts.specs.Pairing.{ofMark}
+use Rattle.verdicts.specs.Judge.{judged, marked, verdictOf, imageChain}
 use Rattle.area.specs.declared.sheet.Sheet.{Sheet}
-use Rattle.image.specs.declared.chain.Ending.{Ending}
-use Rattle.image.specs.declared.chain.Ending.the-variants as ending
+use Rattle.verdicts.specs.declared.chain.Ending.{Ending}
+use Rattle.verdicts.specs.declared.chain.Ending.the-variants as ending
 use Rattle.area.specs.declared.refusal.Refusal.{Refusal}
 use Rattle.area.specs.declared.refusal.Refusal.the-variants.{ShortOutput}
 use Rattle.image.specs.declared.inspect.Overview.{Overview}

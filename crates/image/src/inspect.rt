@@ -5,20 +5,20 @@ ghost use Prim.Native.Nat.{_+_, _*_, _≤_, _<_};
 ghost use lib.ListN.{length};
 ghost use lib.Seq.{sets};
 ghost use Rattle.area.specs.Sheet.{Lawful, Open, heapLength};
-ghost use Rattle.image.specs.Pairing.{PairedIn, ofMark};
-ghost use Rattle.image.specs.Judge.{judged, marked, imageChain};
+ghost use Rattle.verdicts.specs.Pairing.{PairedIn, ofMark};
+ghost use Rattle.verdicts.specs.Judge.{judged, marked, imageChain};
 ghost use Rattle.image.specs.Inspect.{rowOf, rowsOf, judgedBy, findingsOf, inspectOf, InspectedIf, surveyOf, SurveyedIf};
-use crate::chain;
-use crate::chain::Ending;
-use crate::chain::Walked;
-use crate::judge;
-use crate::pairing;
 use area::refusal::Refusal;
 use area::sheet;
 use area::sheet::Opened;
 use area::sheet::Sheet;
 use tags::verdict;
 use tags::verdict::Verdict;
+use verdicts::chain;
+use verdicts::chain::Ending;
+use verdicts::chain::Walked;
+use verdicts::judge;
+use verdicts::pairing;
 
 // How many buffers were inspected, or why none was.
 pub enum Inspected {

@@ -31,7 +31,7 @@ use Rattle.heap.specs.declared.holding.Holding.{Holding}
 use Rattle.heap.specs.declared.holding.Held.the-variants as held
 use Rattle.heap.specs.declared.show.Shown.the-variants as shown
 use Rattle.area.proofs.Places.{place-at}
-use Rattle.image.proofs.Chains.{occ-here}
+use Rattle.verdicts.proofs.Chains.{occ-here}
 use Rattle.ledger.specs.Ledger.{Loan, headed, grantSize, asGranted}
 use Rattle.ledger.proofs.Chunks.{chunkFor, LawfulLoan, granted-verdict, grant-within, free-sound, client-part}
 use Rattle.ledger.proofs.State.{Laid, outs, Holds, record-fits, records-some, chunk-some, first-below, first-address, none-linked, opens}

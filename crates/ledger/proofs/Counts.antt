@@ -8,10 +8,10 @@ use native.Mathlib.Decide.{ℕ-discrete}
 use native.Mathlib.Omega.{arith}
 use borrow.Author.Tests.{eq-eqb, ne-eqb}
 use Rattle.area.specs.Place.{placeAddress, placeOf}
-use Rattle.image.specs.Chain.{occ}
+use Rattle.verdicts.specs.Chain.{occ}
 use Rattle.area.specs.declared.place.Place.the-variants.{Nowhere}
 use Rattle.area.proofs.Places.{address-one, place-missed}
-use Rattle.image.proofs.Chains.{occ-none, occ-here, occ-apart}
+use Rattle.verdicts.proofs.Chains.{occ-none, occ-here, occ-apart}
 use Rattle.ledger.specs.Ledger.{Loan, put}
 
 -- ---- sums

@@ -19,14 +19,14 @@ use Rattle.tags.specs.declared.verdict.Verdict.{Verdict}
 use Rattle.tags.proofs.Laws.{tag-pattern}
 use Rattle.area.specs.Areas.{Areas, bufferAddress, recordAddress}
 use Rattle.area.specs.Record.{addressWord}
-use Rattle.image.specs.Chain.{occ}
-use Rattle.image.specs.Pairing.{namers, theOne, ownOf}
-use Rattle.image.specs.Judge.{chainedVerdict, ownedVerdict, judged, imageChain, verdictOf}
+use Rattle.verdicts.specs.Chain.{occ}
+use Rattle.verdicts.specs.Pairing.{namers, theOne, ownOf}
+use Rattle.verdicts.specs.Judge.{chainedVerdict, ownedVerdict, judged, imageChain, verdictOf}
 use Rattle.area.specs.declared.sheet.Sheet.{Sheet}
-use Rattle.image.specs.declared.chain.Ending.the-variants.{End}
-use Rattle.image.specs.declared.pairing.Own.the-variants.{One}
+use Rattle.verdicts.specs.declared.chain.Ending.the-variants.{End}
+use Rattle.verdicts.specs.declared.pairing.Own.the-variants.{One}
 use Rattle.area.proofs.Places.{address-one}
-use Rattle.image.proofs.Chains.{linked-chain}
+use Rattle.verdicts.proofs.Chains.{linked-chain}
 use Rattle.ledger.specs.Ledger.{Loan, headed, asGranted, asNoted, foundAllocated}
 use Rattle.ledger.proofs.Chunks.{chunkFor, stateFor, LawfulLoan, tag-for, granted-verdict, free-sound}
 use Rattle.ledger.proofs.Counts.{total}

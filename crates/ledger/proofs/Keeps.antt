@@ -19,14 +19,14 @@ use Rattle.tags.specs.declared.chunk.Grant.{Grant}
 use Rattle.tags.specs.declared.chunk.Grant.the-variants as grant
 use Rattle.area.specs.Areas.{Areas, stamped, bufferAddress, recordAddress, chunkAt}
 use Rattle.area.specs.Record.{recordSize, recordWord, nextWord}
-use Rattle.image.specs.Chain.{occ}
-use Rattle.image.specs.Walk.{Linked}
+use Rattle.verdicts.specs.Chain.{occ}
+use Rattle.verdicts.specs.Walk.{Linked}
 use Rattle.heap.specs.Allocate.{lawfulSize, grantedAreas}
 use Rattle.heap.specs.Free.{freedAreas}
 use Rattle.heap.specs.Store.{storedAreas}
 use Rattle.area.specs.declared.sheet.Sheet.{Sheet}
 use Rattle.area.proofs.Sheets.{chunk-inside, record-inside}
-use Rattle.image.proofs.Chains.{occ-cons, occ-here, occ-apart, linked-same}
+use Rattle.verdicts.proofs.Chains.{occ-cons, occ-here, occ-apart, linked-same}
 use Rattle.ledger.specs.Ledger.{Loan, put, fresh, laidOver, grantSize, headed}
 use Rattle.ledger.proofs.Chunks.{chunkFor, LawfulLoan, grant-within, fresh-chunk, fresh-lawful, store-chunk, store-lawful}
 use Rattle.ledger.proofs.Sheets.{sheet-head}

@@ -17,7 +17,7 @@ use Rattle.tags.proofs.Laws.{length-freeChunk}
 use Rattle.area.specs.Areas.{Areas, refusedWith, bufferAddress, recordAddress}
 use Rattle.area.specs.Sheet.{lawful, lengthsRight}
 use Rattle.area.specs.Record.{recordWord, addressWord, nextWord}
-use Rattle.image.specs.Walk.{Linked}
+use Rattle.verdicts.specs.Walk.{Linked}
 use Rattle.layout.specs.Layout.{flat, linkTo, laidSheet, recordBytes, laidAreas, layOutOf}
 use Rattle.area.specs.declared.sheet.Sheet.{Sheet}
 use Rattle.area.specs.declared.refusal.Refusal.the-variants.{BadSheet, BadNumber, BadLength}

@@ -13,8 +13,8 @@ use Rattle.area.specs.Areas.{Areas, bufferAddress, recordAddress, chunkAt}
 use Rattle.area.specs.Sheet.{heapLength, recordsLength, lawful, Lawful, openedOf}
 use Rattle.area.specs.Place.{placeOf}
 use Rattle.area.specs.Record.{addressWord, nextWord}
-use Rattle.image.specs.Chain.{occ}
-use Rattle.image.specs.Walk.{Linked}
+use Rattle.verdicts.specs.Chain.{occ}
+use Rattle.verdicts.specs.Walk.{Linked}
 use Rattle.layout.specs.Layout.{sheetBytes}
 use Rattle.area.specs.declared.sheet.Sheet.{Sheet}
 use Rattle.area.specs.declared.sheet.Opened.the-variants.{Image}

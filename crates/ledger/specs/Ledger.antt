@@ -19,9 +19,9 @@ use Rattle.tags.specs.declared.verdict.Verdict.{Verdict}
 use Rattle.tags.specs.declared.verdict.Verdict.the-variants as verdict
 use Rattle.area.specs.Areas.{Areas, Result, bufferAddress}
 use Rattle.area.specs.Sheet.{openedOf}
-use Rattle.image.specs.Chain.{occ}
-use Rattle.image.specs.Pairing.{ownOf}
-use Rattle.image.specs.Judge.{imageChain, verdictOf}
+use Rattle.verdicts.specs.Chain.{occ}
+use Rattle.verdicts.specs.Pairing.{ownOf}
+use Rattle.verdicts.specs.Judge.{imageChain, verdictOf}
 use Rattle.layout.specs.Layout.{laidSheet, layOutOf}
 use Rattle.heap.specs.Allocate.{lawfulSize, allocateOf}
 use Rattle.heap.specs.Free.{freeOf}
@@ -29,8 +29,8 @@ use Rattle.heap.specs.Store.{storeOf}
 use Rattle.heap.specs.Show.{shownOf}
 use Rattle.area.specs.declared.sheet.Sheet.{Sheet}
 use Rattle.area.specs.declared.sheet.Opened.the-variants.{Image}
-use Rattle.image.specs.declared.chain.Ending.the-variants.{End}
-use Rattle.image.specs.declared.pairing.Own.the-variants.{One}
+use Rattle.verdicts.specs.declared.chain.Ending.the-variants.{End}
+use Rattle.verdicts.specs.declared.pairing.Own.the-variants.{One}
 use Rattle.area.specs.declared.refusal.Refusal.the-variants.{NoRoom, NotAllocated}
 use Rattle.area.specs.declared.refusal.Outcome.{Outcome}
 use Rattle.area.specs.declared.refusal.Outcome.the-variants as outcome

@@ -4,8 +4,8 @@ use mathlib.Core.List.{List, [], _∷_}
 use Prim.Native.Nat.{ℕ}
 use Prim.Native.String.{String}
 use lib.ListN.{length}
-use Rattle.image.specs.declared.chain.Ending.{Ending}
-use Rattle.image.specs.declared.chain.Ending.the-variants.{End, Broken, Again}
+use Rattle.verdicts.specs.declared.chain.Ending.{Ending}
+use Rattle.verdicts.specs.declared.chain.Ending.the-variants.{End, Broken, Again}
 use Rattle.report.specs.Text.{ascii, decimalWith, headerOf, hasOffset, lineOf, linesOf, chainLineOf, faultsIn, faultsOf, textOf, rowNumber, rowValue}
 
 -- the report of n buffers, three numbers for each, is this text of so many bytes

@@ -9,7 +9,7 @@ use lib.ListN.{length, getD, set, take, length-append}
 use lib.Seq.{sets, length-sets, set-out, take-suc, length-take-le}
 use Rattle.io.specs.Digits.{glyph, digits, Fewest}
 use Rattle.words.proofs.Laws.{sets-append}
-use Rattle.image.specs.declared.chain.Ending.{Ending}
+use Rattle.verdicts.specs.declared.chain.Ending.{Ending}
 use Rattle.report.specs.Text.{decimalWith, headerOf, lineOf, linesOf, chainLineOf, faultOf, faultsIn, faultsOf, textOf, Wrote, writtenOf, outputOf}
 use Rattle.report.specs.declared.text.Written.the-variants.{Length, Short}
 

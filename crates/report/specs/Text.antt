@@ -9,8 +9,8 @@ use lib.Dec.{eqb, leb, ltb}
 use lib.ListN.{length, getD}
 use lib.Seq.{sets}
 use Rattle.words.specs.Run.{pick}
-use Rattle.image.specs.declared.chain.Ending.{Ending}
-use Rattle.image.specs.declared.chain.Ending.the-variants.{End, Broken, Again}
+use Rattle.verdicts.specs.declared.chain.Ending.{Ending}
+use Rattle.verdicts.specs.declared.chain.Ending.the-variants.{End, Broken, Again}
 use Rattle.report.specs.declared.text.Written.{Written}
 use Rattle.report.specs.declared.text.Written.the-variants.{Length, Short}
 

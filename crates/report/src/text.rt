@@ -8,7 +8,7 @@ ghost use Rattle.report.specs.Text.{decimalOf, headerOf, hasOffset, line
 ghost use Rattle.area.specs.Refusal.{refusalNumber};
 use area::refusal;
 use area::refusal::Refusal;
-use image::chain::Ending;
+use verdicts::chain::Ending;
 
 // How long the text is, where the output has room for it.
 pub enum Written {

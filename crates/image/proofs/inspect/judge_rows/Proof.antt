@@ -6,10 +6,10 @@ use borrow.Author.Needs.{needs}
 use lib.Seq.{sets}
 use lib.ListN.{length}
 use Rattle.image.proofs.Findings.{rows-none, rows-more}
-use Rattle.image.specs.declared.pairing.Own.{Own}
-use Rattle.image.specs.Judge.{judged, marked}
+use Rattle.verdicts.specs.declared.pairing.Own.{Own}
+use Rattle.verdicts.specs.Judge.{judged, marked}
 use Rattle.image.specs.Inspect.{rowsOf, rowOf, judgedBy}
-use Rattle.image.specs.Pairing.{OwnIf}
+use Rattle.verdicts.specs.Pairing.{OwnIf}
 use Rattle.tags.specs.declared.verdict.Verdict.{Verdict}
 use Rattle.words.proofs.Laws.{below}
 use Rattle.image.proofs.inspect.judge_rows.Statement.{statement}

@@ -3,7 +3,7 @@ use mathlib.Core.Path.{subst}
 use borrow.Author.Tests.{lt-ltb, le-ltb}
 use borrow.Author.Needs.{needs}
 use Rattle.image.specs.Latest.{indexedLatest}
-use Rattle.image.specs.Pairing.{OwnIf}
+use Rattle.verdicts.specs.Pairing.{OwnIf}
 use Rattle.image.proofs.latest.latest_of.Statement.{statement}
 use Rattle.image.proofs.latest.latest_of.Tie as tie
 

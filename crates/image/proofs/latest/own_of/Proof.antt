@@ -3,7 +3,7 @@ use mathlib.Core.Path.{refl, sym, _∙_, subst}
 use native.Mathlib.Omega.{arith}
 use borrow.Author.Needs.{needs}
 use Rattle.image.proofs.Findings.{paired-in}
-use Rattle.image.specs.Pairing.{OwnIf}
+use Rattle.verdicts.specs.Pairing.{OwnIf}
 use Rattle.image.proofs.latest.own_of.Statement.{statement}
 use Rattle.image.proofs.latest.own_of.Tie as tie
 

@@ -1,0 +1,411 @@
+-- The laws of the chain: the marks that stand for the records met, the rule with no bound on the steps, what a chain meets, and that a linked list is the chain.
+-- Assumes nothing.
+use mathlib.Core.Path.{_≡_, refl, sym, ap, _∙_}
+use mathlib.Core.Logic.{_≢_, _⊎_, inl, inr, ⊎-elim}
+use mathlib.Core.List.{List, [], _∷_, _++_, append-nil}
+use Prim.Native.Nat.{ℕ, zero, suc, _+_, _-_, _*_, _/_, _%_, _≤_, _<_, _^_}
+use native.Mathlib.Nat.{zero-add, le-of-suc-le-suc, not-suc-le-zero}
+use native.Mathlib.Decide.{ℕ-discrete}
+use native.Mathlib.Omega.{arith}
+use borrow.Author.Tests.{eq-eqb, ne-eqb}
+use lib.Dec.{eqb}
+use lib.ListN.{length, getD, set, replicate, length-set}
+use lib.Seq.{ext-getD, getD-set-same, getD-set-other}
+use Rattle.words.specs.Run.{pick}
+use Rattle.area.specs.Place.{placeOf}
+use Rattle.area.specs.Record.{recordSize, nextWord}
+use Rattle.verdicts.specs.Chain.{occ, Chain, stop, meets, chainFrom, chainOf}
+use Rattle.verdicts.specs.Walk.{table, mark, marksOf, unmarked, unmet, chainAfter, ofPlace, endingAt, wordValues, Gives, Linked}
+use Rattle.area.specs.declared.place.Place.{Place}
+use Rattle.area.specs.declared.place.Place.the-variants.{At, Nowhere}
+use Rattle.verdicts.specs.declared.chain.Ending.{Ending}
+use Rattle.verdicts.specs.declared.chain.Ending.the-variants.{End, Broken, Again}
+use Rattle.area.proofs.Places.{place-at, place-found}
+
+-- ---- how often a number stands in a list
+
+pub occ-none : (i : ℕ) → occ i [] ≡ 0
+unfolding occ
+occ-none i = refl
+
+pub occ-cons : (i j : ℕ) (l : List ℕ) → occ i (j ∷ l) ≡ pick (eqb i j) 1 0 + occ i l
+unfolding occ
+occ-cons i j l = refl
+
+pub occ-here : (i : ℕ) (l : List ℕ) → occ i (i ∷ l) ≡ suc (occ i l)
+unfolding occ
+occ-here i l = simp (eq-eqb i i refl) (omega arith)
+
+pub occ-apart : (i j : ℕ) (l : List ℕ) → i ≢ j → occ i (j ∷ l) ≡ occ i l
+unfolding occ
+occ-apart i j l d = simp (ne-eqb i j d) (omega arith)
+
+pub occ-append : (i : ℕ) (xs ys : List ℕ) → occ i (xs ++ ys) ≡ occ i xs + occ i ys
+unfolding occ
+occ-append i [] ys = omega arith
+occ-append i (x ∷ xs) ys = let h = occ-append i xs ys in omega arith
+
+-- what is put in front of one list is counted as in front of the other
+pub occ-mid : (i j : ℕ) (xs ys : List ℕ) → occ i (xs ++ (j ∷ ys)) ≡ occ i (j ∷ (xs ++ ys))
+unfolding occ
+occ-mid i j xs ys = let a = occ-append i xs (j ∷ ys) in let b = occ-append i xs ys in omega arith
+
+-- ---- the marks
+
+length-table : (n : ℕ) (f : ℕ → ℕ) → length (table n f) ≡ n
+unfolding table
+length-table zero f = refl
+length-table (suc n) f = ap suc (length-table n (λ i. f (suc i)))
+
+getD-table : (n : ℕ) (f : ℕ → ℕ) (i : ℕ) → i < n → getD (table n f) i 0 ≡ f i
+unfolding table
+getD-table zero f i l = absurd (not-suc-le-zero l)
+getD-table (suc n) f zero l = refl
+getD-table (suc n) f (suc i) l = getD-table n (λ j. f (suc j)) i (le-of-suc-le-suc l)
+
+table-const : (n a : ℕ) → table n (λ i. a) ≡ replicate n a
+unfolding table
+table-const zero a = refl
+table-const (suc n) a = ap (λ (l : List ℕ). a ∷ l) (table-const n a)
+
+pub length-marks : (n : ℕ) (l : List ℕ) → length (marksOf n l) ≡ n
+length-marks n l = length-table n (λ i. mark (occ i l))
+
+-- a mark tells whether its record is in the list
+pub marked : (n : ℕ) (l : List ℕ) (i : ℕ) → i < n → getD (marksOf n l) i 0 ≡ mark (occ i l)
+marked n l i h = getD-table n (λ j. mark (occ j l)) i h
+
+mark-none : (k : ℕ) → mark k ≡ 0 → k ≡ 0
+mark-none zero e = refl
+mark-none (suc k) e = absurd (omega arith)
+
+mark-most : (k : ℕ) → mark k ≤ 1
+mark-most zero = omega arith
+mark-most (suc k) = omega arith
+
+pub not-met : (n : ℕ) (l marks : List ℕ) (i : ℕ) → marks ≡ marksOf n l → i < n → getD marks i 0 ≡ 0 → occ i l ≡ 0
+not-met n l marks i e h z = mark-none (occ i l) (sym (marked n l i h) ∙ ap (λ (m : List ℕ). getD m i 0) (sym e) ∙ z)
+
+pub is-met : (n : ℕ) (l marks : List ℕ) (i : ℕ) → marks ≡ marksOf n l → i < n → getD marks i 0 ≢ 0 → occ i l ≢ 0
+is-met n l marks i e h d z = d (ap (λ (m : List ℕ). getD m i 0) e ∙ marked n l i h ∙ ap mark z)
+
+pub marks-none : (n : ℕ) → marksOf n [] ≡ replicate n 0
+unfolding occ
+marks-none n = table-const n 0
+
+-- a record more is met
+pub marks-set : (n i : ℕ) (l : List ℕ) → i < n → set (marksOf n l) i 1 ≡ marksOf n (i ∷ l)
+marks-set n i l h =
+    ext-getD 0 (set (marksOf n l) i 1) (marksOf n (i ∷ l))
+    (simp (length-set, length-table))
+    (λ j lt. at j (simp (length-set, length-table) at lt) (ℕ-discrete j i))
+  where
+    at : (j : ℕ) → j < n → Dec (j ≡ i) → getD (set (marksOf n l) i 1) j 0 ≡ getD (marksOf n (i ∷ l)) j 0
+    at j lt (yes e) =
+        ap (λ (k : ℕ). getD (set (marksOf n l) i 1) k 0) e
+        ∙ getD-set-same (marksOf n l) i 1 0 (simp length-table h)
+        ∙ sym (marked n (i ∷ l) j lt ∙ ap (λ (k : ℕ). mark (occ k (i ∷ l))) e ∙ ap mark (occ-here i l))
+    at j lt (no d) =
+        getD-set-other (marksOf n l) i j 1 0 d
+        ∙ marked n l j lt
+        ∙ sym (marked n (i ∷ l) j lt ∙ ap mark (occ-apart j i l d))
+
+-- the order of what is met does not matter
+marks-mid : (n i : ℕ) (xs ys : List ℕ) → marksOf n (xs ++ (i ∷ ys)) ≡ marksOf n (i ∷ (xs ++ ys))
+marks-mid n i xs ys = λ k. table n (λ j. mark (occ-mid j i xs ys k))
+
+-- ---- the records not met yet
+
+more : (a k : ℕ) → unmarked a (suc k) ≡ suc (unmarked a k)
+more zero k = refl
+more (suc a) k = refl
+
+most : (a k : ℕ) → unmarked a k ≤ suc k
+most zero k = omega arith
+most (suc a) k = omega arith
+
+pub unmet-most : (m : List ℕ) → unmet m ≤ length m
+unfolding unmet
+unmet-most [] = omega arith
+unmet-most (x ∷ m) = let h = unmet-most m in omega (arith, most x (unmet m))
+
+pub unmet-set : (m : List ℕ) (i : ℕ) → i < length m → getD m i 0 ≡ 0 → unmet m ≡ suc (unmet (set m i 1))
+unfolding unmet
+unmet-set [] i l e = absurd (not-suc-le-zero l)
+unmet-set (x ∷ m) zero l e = ap (λ (a : ℕ). unmarked a (unmet m)) e
+unmet-set (x ∷ m) (suc i) l e = ap (unmarked x) (unmet-set m i (le-of-suc-le-suc l) e) ∙ more x (unmet (set m i 1))
+
+-- how many of n records are not in the list
+abbrev pub left : ℕ → List ℕ → ℕ
+left n l = unmet (marksOf n l)
+
+left-most : (n : ℕ) (l : List ℕ) → left n l ≤ n
+left-most n l = let h = unmet-most (marksOf n l) in let e = length-marks n l in omega arith
+
+left-fewer : (n i : ℕ) (l : List ℕ) → i < n → occ i l ≡ 0 → left n l ≡ suc (left n (i ∷ l))
+left-fewer n i l h e =
+    unmet-set (marksOf n l) i (simp length-table h) (marked n l i h ∙ ap mark e)
+    ∙ ap (λ (k : List ℕ). suc (unmet k)) (marks-set n i l h)
+
+-- ---- the rule
+
+-- What the rule asks, at each of its steps, of something that is to hold of every chain: of the records met already, the word it starts from and the chain.
+pub record Steps (next : ℕ → ℕ) (at : ℕ → Place) (P : List ℕ → ℕ → Chain → Type 0) : Type 0 where
+  pub ends : (seen : List ℕ) (w : ℕ) → w ≡ 0 → P seen w (stop End)
+  pub breaks : (seen : List ℕ) (w : ℕ) → w ≢ 0 → at w ≡ Nowhere → P seen w (stop Broken)
+  pub repeats : (seen : List ℕ) (w i : ℕ) → w ≢ 0 → at w ≡ At i → occ i seen ≢ 0 → P seen w (stop (Again i))
+  pub goes-on : (seen : List ℕ) (w i : ℕ) (c : Chain) → w ≢ 0 → at w ≡ At i → occ i seen ≡ 0 → P (i ∷ seen) (next i) c → P seen w (meets i c)
+
+place? : (p : Place) → ((i : ℕ) × (p ≡ At i)) ⊎ (p ≡ Nowhere)
+place? (At i) = inl (i, refl)
+place? Nowhere = inr refl
+
+module _ (next : ℕ → ℕ) (at : ℕ → Place) where
+  module _ (k : ℕ) (seen : List ℕ) (w : ℕ) where
+    from-end : w ≡ 0 → chainFrom next at (suc k) seen w ≡ stop End
+    unfolding chainFrom
+    from-end e = simp (eq-eqb w 0 e)
+
+    from-broken : w ≢ 0 → at w ≡ Nowhere → chainFrom next at (suc k) seen w ≡ stop Broken
+    unfolding chainFrom
+    from-broken z e = simp (ne-eqb w 0 z, e)
+
+    from-again : (i : ℕ) → w ≢ 0 → at w ≡ At i → occ i seen ≢ 0 → chainFrom next at (suc k) seen w ≡ stop (Again i)
+    unfolding chainFrom
+    from-again i z e m = simp (ne-eqb w 0 z, e, ne-eqb (occ i seen) 0 m)
+
+    from-meets : (i : ℕ) → w ≢ 0 → at w ≡ At i → occ i seen ≡ 0 → chainFrom next at (suc k) seen w ≡ meets i (chainFrom next at k (i ∷ seen) (next i))
+    unfolding chainFrom
+    from-meets i z e m = simp (ne-eqb w 0 z, e, eq-eqb (occ i seen) 0 m)
+
+  module _ (n : ℕ) (within : (w i : ℕ) → at w ≡ At i → i < n) where
+    module _ (P : List ℕ → ℕ → Chain → Type 0) (s : Steps next at P) where
+      -- one step, where those after it hold
+      step : (k : ℕ) (seen : List ℕ) (w : ℕ) → ((i : ℕ) → left n (i ∷ seen) < k → P (i ∷ seen) (next i) (chainFrom next at k (i ∷ seen) (next i)))
+          → left n seen < suc k → P seen w (chainFrom next at (suc k) seen w)
+      step k seen w rest h = word (ℕ-discrete w 0)
+        where
+          met : (i : ℕ) → w ≢ 0 → at w ≡ At i → Dec (occ i seen ≡ 0) → P seen w (chainFrom next at (suc k) seen w)
+          met i z e (yes m) =
+              let f = left-fewer n i seen (within w i e) m in
+              rw (from-meets k seen w i z e m) (s .goes-on seen w i _ z e m (rest i (omega arith)))
+          met i z e (no m) = rw (from-again k seen w i z e m) (s .repeats seen w i z e m)
+
+          word : Dec (w ≡ 0) → P seen w (chainFrom next at (suc k) seen w)
+          word (yes z) = rw (from-end k seen w z) (s .ends seen w z)
+          word (no z) =
+              ⊎-elim
+              (λ (p : (i : ℕ) × (at w ≡ At i)). met (p .0) z (p .1) (ℕ-discrete (occ (p .0) seen) 0))
+              (λ (e : at w ≡ Nowhere). rw (from-broken k seen w z e) (s .breaks seen w z e))
+              (place? (at w))
+
+      -- what the rule hands on from step to step holds of every chain
+      pub by-rule : (k : ℕ) (seen : List ℕ) (w : ℕ) → left n seen < k → P seen w (chainFrom next at k seen w)
+      by-rule zero seen w h = absurd (not-suc-le-zero h)
+      by-rule (suc k) seen w h = step k seen w (λ i l. by-rule k (i ∷ seen) (next i) l) h
+
+    -- any two numbers of steps that are more than the records left give the same
+    pub enough : (j k : ℕ) (seen : List ℕ) (w : ℕ) → left n seen < j → left n seen < k → chainFrom next at k seen w ≡ chainFrom next at j seen w
+    enough j k seen w hj hk =
+        ap (λ (f : ℕ). chainFrom next at f seen w) (let e : k ≡ suc (left n seen + (k - suc (left n seen))) = omega arith in e)
+        ∙ by-rule Same
+        (record {
+          ends = λ seen w z d. from-end (left n seen + d) seen w z;
+          breaks = λ seen w z e d. from-broken (left n seen + d) seen w z e;
+          repeats = λ seen w i z e m d. from-again (left n seen + d) seen w i z e m;
+          goes-on = λ seen w i c z e m h d.
+              let f = left-fewer n i seen (within w i e) m in
+              from-meets (left n seen + d) seen w i z e m
+              ∙ ap (λ (f : ℕ). meets i (chainFrom next at f (i ∷ seen) (next i))) (let e : left n seen + d ≡ suc (left n (i ∷ seen) + d) = omega arith in e)
+              ∙ ap (meets i) (h d);
+        })
+        j seen w hj (k - suc (left n seen))
+      where
+        Same : List ℕ → ℕ → Chain → Type 0
+        Same seen w c = (d : ℕ) → chainFrom next at (suc (left n seen + d)) seen w ≡ c
+
+-- ---- the chain of an image
+
+below-more : (n i : ℕ) (l : List ℕ) → i < n → ((j : ℕ) → occ j l ≢ 0 → j < n) → (j : ℕ) → occ j (i ∷ l) ≢ 0 → Dec (j ≡ i) → j < n
+below-more n i l b r j h (yes e) = omega arith
+below-more n i l b r j h (no d) = r j (λ z. h (occ-apart j i l d ∙ z))
+
+once-more : (seen : List ℕ) (i : ℕ) (l : List ℕ) → occ i seen ≡ 0 → (j : ℕ) → mark (occ j (i ∷ seen)) + occ j l ≤ 1 → Dec (j ≡ i)
+    → mark (occ j seen) + occ j (i ∷ l) ≤ 1
+once-more seen i l m j h (yes e) =
+    let a : mark (occ j (i ∷ seen)) ≡ 1 = ap (λ (k : ℕ). mark (occ k (i ∷ seen))) e ∙ ap mark (occ-here i seen) in
+    let b : mark (occ j seen) ≡ 0 = ap (λ (k : ℕ). mark (occ k seen)) e ∙ ap mark m in
+    let c : occ j (i ∷ l) ≡ suc (occ j l) = ap (λ (k : ℕ). occ j (k ∷ l)) (sym e) ∙ occ-here j l in
+    omega arith
+once-more seen i l m j h (no d) =
+    let a : mark (occ j (i ∷ seen)) ≡ mark (occ j seen) = ap mark (occ-apart j i seen d) in
+    omega (arith, occ-apart j i l d)
+
+module _ (records : List ℕ) (base n : ℕ) where
+  within : (w i : ℕ) → placeOf base recordSize n w ≡ At i → i < n
+  within w i e = place-found base recordSize n w i e .0
+
+  pub chain-whole : (head : ℕ) → chainOf records base n head ≡ chainAfter records base n [] head
+  unfolding chainOf chainAfter
+  chain-whole head = refl
+
+  -- The rule, with no bound on the steps.
+  module _ (seen : List ℕ) (w : ℕ) where
+    pub chain-end : w ≡ 0 → chainAfter records base n seen w ≡ stop End
+    unfolding chainAfter
+    chain-end = from-end (nextWord records) (placeOf base recordSize n) n seen w
+
+    pub chain-broken : w ≢ 0 → placeOf base recordSize n w ≡ Nowhere → chainAfter records base n seen w ≡ stop Broken
+    unfolding chainAfter
+    chain-broken = from-broken (nextWord records) (placeOf base recordSize n) n seen w
+
+    pub chain-again : (i : ℕ) → w ≢ 0 → placeOf base recordSize n w ≡ At i → occ i seen ≢ 0 → chainAfter records base n seen w ≡ stop (Again i)
+    unfolding chainAfter
+    chain-again = from-again (nextWord records) (placeOf base recordSize n) n seen w
+
+    pub chain-meets : (i : ℕ) → w ≢ 0 → placeOf base recordSize n w ≡ At i → occ i seen ≡ 0
+        → chainAfter records base n seen w ≡ meets i (chainAfter records base n (i ∷ seen) (nextWord records i))
+    unfolding chainAfter
+    chain-meets i z e m =
+        let f = left-fewer n i seen (within w i e) m in
+        let a = left-most n seen in
+        from-meets (nextWord records) (placeOf base recordSize n) n seen w i z e m
+        ∙ ap (meets i) (enough (nextWord records) (placeOf base recordSize n) n within (suc n) n (i ∷ seen) (nextWord records i) (omega arith) (omega arith))
+
+  -- what the rule hands on from step to step holds of every chain
+  pub chain-by : (P : List ℕ → ℕ → Chain → Type 0) → Steps (nextWord records) (placeOf base recordSize n) P
+      → (seen : List ℕ) (w : ℕ) → P seen w (chainAfter records base n seen w)
+  unfolding chainAfter
+  chain-by P s seen w =
+      let a = left-most n seen in
+      by-rule (nextWord records) (placeOf base recordSize n) n within P s (suc n) seen w (omega arith)
+
+  -- and, of the records met, what holds of none and is kept by one more
+  pub met-by : (P : List ℕ → List ℕ → Type 0) → ((seen : List ℕ) → P seen [])
+      → ((seen : List ℕ) (i : ℕ) (l : List ℕ) → i < n → occ i seen ≡ 0 → P (i ∷ seen) l → P seen (i ∷ l))
+      → (seen : List ℕ) (w : ℕ) → P seen (chainAfter records base n seen w .met)
+  met-by P none one =
+      chain-by (λ seen w c. P seen (c .met))
+      (record {
+        ends = λ seen w z. none seen;
+        breaks = λ seen w z e. none seen;
+        repeats = λ seen w i z e m. none seen;
+        goes-on = λ seen w i c z e m. one seen i (c .met) (within w i e) m;
+      })
+
+  module _ (head : ℕ) where
+    -- every record met is one of the n
+    pub chain-below : (j : ℕ) → occ j (chainOf records base n head .met) ≢ 0 → j < n
+    chain-below = rw chain-whole
+        (met-by (λ seen l. (j : ℕ) → occ j l ≢ 0 → j < n)
+        (λ seen j h. absurd (h (occ-none j)))
+        (λ seen i l b m r j h. below-more n i l b r j h (ℕ-discrete j i))
+        [] head)
+
+    -- and is met once
+    pub chain-once : (j : ℕ) → occ j (chainOf records base n head .met) ≤ 1
+    chain-once j = rw chain-whole
+        (let h = met-by (λ seen l. (j : ℕ) → mark (occ j seen) + occ j l ≤ 1)
+        (λ seen j. omega (arith, occ-none j, mark-most (occ j seen)))
+        (λ seen i l b m r j. once-more seen i l m j (r j) (ℕ-discrete j i))
+        [] head j in omega arith)
+
+    -- so no more are met than there are
+    pub chain-short : length (chainOf records base n head .met) ≤ n
+    chain-short = rw chain-whole
+        (let h = met-by (λ seen l. length l ≤ left n seen)
+        (λ seen. omega arith)
+        (λ seen i l b m r. omega (arith, left-fewer n i seen b m))
+        [] head in omega (arith, left-most n []))
+
+    -- the record that a chain comes to again is one that it met
+    pub chain-met-again : (i : ℕ) → chainOf records base n head .ending ≡ Again i → occ i (chainOf records base n head .met) ≡ 1
+    chain-met-again i e = let h = met-again i e in omega (arith, chain-once i)
+      where
+        met-again : (i : ℕ) → chainOf records base n head .ending ≡ Again i → occ i (chainOf records base n head .met) ≢ 0
+        met-again = rw chain-whole
+            (λ i e h. chain-by (λ seen w c. (i : ℕ) → c .ending ≡ Again i → occ i seen + occ i (c .met) ≢ 0)
+            (record {
+              ends = λ seen w z i e. absurd (let z : _≡_ {A = ℕ} 0 1 = cc in omega arith);
+              breaks = λ seen w z e i q. absurd (let z : _≡_ {A = ℕ} 0 1 = cc in omega arith);
+              repeats = λ seen w i z e m j q h. let s : i ≡ j = cc in m (ap (λ (k : ℕ). occ k seen) s ∙ omega arith);
+              goes-on = λ seen w i c z e m r j q h. r j q (omega (arith, occ-cons j i seen, occ-cons j i (c .met)));
+            }) [] head i e (omega (arith, occ-none i)))
+
+    pub chain-again-below : (i : ℕ) → chainOf records base n head .ending ≡ Again i → i < n
+    chain-again-below i e = chain-below i (let h = chain-met-again i e in omega arith)
+
+    -- a chain that ends is linked
+    pub chain-linked : chainOf records base n head .ending ≡ End → Linked (nextWord records) base n head (chainOf records base n head .met)
+    unfolding Linked
+    chain-linked = rw chain-whole
+        (chain-by (λ seen w c. c .ending ≡ End → Linked (nextWord records) base n w (c .met))
+        (record {
+          ends = λ seen w z e. z;
+          breaks = λ seen w z e q. absurd (let z : _≡_ {A = ℕ} 0 1 = cc in omega arith);
+          repeats = λ seen w i z e m q. absurd (let z : _≡_ {A = ℕ} 0 1 = cc in omega arith);
+          goes-on = λ seen w i c z e m r q. let f = place-found base recordSize n w i e in (f .0, (f .1, r q));
+        }) [] head)
+
+  -- a list of records, none of them twice and none met already, that are linked from the word w down to 0
+  linked-after : base ≢ 0 → (l seen : List ℕ) (w : ℕ) → Linked (nextWord records) base n w l → ((i : ℕ) → occ i seen + occ i l ≤ 1)
+      → chainAfter records base n seen w ≡ record { met = l; ending = End }
+  unfolding Linked
+  linked-after b [] seen w r d = chain-end seen w r
+  linked-after b (i ∷ l) seen w r d =
+      let z : w ≢ 0 = (λ z. b (let e = r .1 .0 in omega arith)) in
+      let o = d i in
+      chain-meets seen w i z (place-at base recordSize n w i (omega arith) (r .0) (r .1 .0)) (omega (arith, occ-here i l))
+      ∙ ap (meets i) (linked-after b l (i ∷ seen) (nextWord records i) (r .1 .1) (λ j. let o = d j in omega (arith, occ-cons j i seen, occ-cons j i l)))
+
+  -- a list of records, none of them twice, that are linked from the head down to 0 is the chain
+  pub linked-chain : base ≢ 0 → (head : ℕ) (l : List ℕ) → Linked (nextWord records) base n head l → ((i : ℕ) → occ i l ≤ 1)
+      → chainOf records base n head ≡ record { met = l; ending = End }
+  linked-chain b head l r d = chain-whole head ∙ linked-after b l [] head r (λ i. let o = d i in omega (arith, occ-none i))
+
+-- the links of a list are the same where the next words of its records are
+pub linked-same : (f g : ℕ → ℕ) (base n w : ℕ) (l : List ℕ) → ((j : ℕ) → occ j l ≢ 0 → f j ≡ g j) → Linked f base n w l → Linked g base n w l
+unfolding Linked
+linked-same f g base n w [] h r = r
+linked-same f g base n w (i ∷ l) h r = (
+  r .0,
+  (
+    r .1 .0,
+    linked-same f g base n (g i) l (λ j m. h j (λ z. m (omega (arith, occ-cons j i l))))
+        (rw (h i (λ z. omega (arith, occ-here i l))) at (r .1 .1)),
+  ),
+)
+
+-- ---- what a walk gives
+
+module _ (base n w : ℕ) where
+  pub ending-end : w ≡ 0 → endingAt base n w ≡ End
+  unfolding endingAt
+  ending-end e = simp (eq-eqb w 0 e)
+
+  pub ending-place : (p : Place) → w ≢ 0 → placeOf base recordSize n w ≡ p → endingAt base n w ≡ ofPlace p
+  unfolding endingAt
+  ending-place p z e = simp (ne-eqb w 0 z, e)
+
+-- a walk that stops at once
+pub gives-stop : (c : Chain) (e : Ending) (seen : List ℕ) (base n before w r : ℕ) (exit : List ℕ) → c ≡ stop e → r ≡ before * wordValues + w → w < 2 ^ 32
+    → endingAt base n w ≡ e → exit ≡ marksOf 512 seen → Gives c seen base n before r exit
+gives-stop c e seen base n before w r exit q ri l t h =
+    let d : r / wordValues ≡ before + 0 = omega arith in
+    let m : r % wordValues ≡ w = omega arith in
+    rw q (record { met = d; ending = ap (endingAt base n) m ∙ t; marked = h })
+
+-- a walk that meets record i, and goes on
+pub gives-meets : (c d : Chain) (i : ℕ) (seen : List ℕ) (base n before r : ℕ) (exit : List ℕ) → c ≡ meets i d
+    → Gives d (i ∷ seen) base n (before + 1) r exit → Gives c seen base n before r exit
+gives-meets c d i seen base n before r exit q g =
+    rw q (record { met = g .met ∙ omega arith; ending = g .ending; marked = g .marked ∙ marks-mid 512 i (d .met) seen })
+
+-- a walk of the whole chain
+pub gives-all : (records : List ℕ) (base n head r : ℕ) (exit : List ℕ) → Gives (chainAfter records base n [] head) [] base n 0 r exit →
+    let c = chainOf records base n head in
+    (r / wordValues ≡ length (c .met)) × ((endingAt base n (r % wordValues) ≡ c .ending) × (exit ≡ marksOf 512 (c .met)))
+gives-all records base n head r exit g =
+    let c = chainOf records base n head in
+    let h = rw (sym (chain-whole records base n head)) at g in
+    (h .met ∙ zero-add (length (c .met)), (h .ending, h .marked ∙ ap (marksOf 512) (append-nil (c .met))))

@@ -1,0 +1,116 @@
+-- The chunk and the record's address are those of the places; the rules from 21 on do the rest. Assumes nothing.
+use mathlib.Core.Path.{ap, _∙_, _≡_, subst}
+use Prim.Native.Nat.{_-_, ℕ, _+_, _*_, _≤_, _<_}
+use native.Mathlib.Omega.{arith}
+use borrow.Author.Needs.{needs}
+use lib.ListN.{take, drop}
+use Rattle.verdicts.specs.Pairing.{OwnIf}
+use Rattle.verdicts.specs.Judge.{ownedVerdict, marked, judged}
+use Rattle.area.specs.Areas.{recordAddress}
+use Rattle.words.specs.Word.{part}
+use Rattle.tags.specs.Chunk.{ChunkLength}
+use Rattle.area.specs.Sheet.{heapLength}
+use Rattle.area.specs.declared.sheet.Sheet.{Sheet}
+use Rattle.area.proofs.Sheets.{chunk-inside, chunk-small, record-small, record-word, chunk-length}
+use Rattle.verdicts.proofs.judge.judge_buffer.Statement.{statement}
+use Rattle.verdicts.proofs.judge.judge_buffer.Tie as tie
+
+enum-told : tie.Need-enum-told
+enum-told c = search needs
+
+enum-known-own : tie.Need-enum-known-own
+enum-known-own c = search needs
+
+-- what is known of buffer i and of its own record
+record Known (g : Sheet) (i j : ℕ) : Type 0 where
+  own : j < g .count
+  chunks : i * g .chunk + g .chunk ≤ heapLength g
+  small : i * g .chunk + g .chunk ≤ 65536
+  little : j * 96 + 96 ≤ 49152
+  fits : g .records + j * 96 + 96 ≤ 4294967296
+  long : ChunkLength (g .chunk)
+
+known : (c : tie.After-own) → Known (c .before .before .before .args .g) (c .before .before .before .args .i) (c .own .given .0 .0)
+known c =
+    let s = c .before .before .before in
+    let g = s .args .g in
+    let i = s .args .i in
+    let law = s .pre .0 in
+    let hi = s .pre .1 .1 .0 in
+    let hj : c .own .given .0 .0 < g .count = subst (OwnIf (g .count)) (c .own .given .1) (s .pre .1 .1 .1) in
+    record {
+      own = hj;
+      chunks = chunk-inside g law i hi;
+      small = chunk-small g law i hi;
+      little = record-small g law (c .own .given .0 .0) hj;
+      fits = record-word g law (c .own .given .0 .0) hj;
+      long = chunk-length g law;
+    }
+
+mul-at : tie.Need-mul-at
+mul-at c = let k = known (c .before .before) in omega arith
+
+add-end : tie.Need-add-end
+add-end c = let k = known (c .before .before .before) in omega arith
+
+mul-record-at : tie.Need-mul-record-at
+mul-record-at c = let k = known (c .before .before .before) in omega arith
+
+cast-record-at : tie.Need-cast-record-at
+cast-record-at c = let k = known (c .before .before .before) in omega arith
+
+add-record-at : tie.Need-add-record-at
+add-record-at c = let k = known (c .before .before .before .before) in omega arith
+
+sub-judge-owned : tie.Need-sub-judge-owned
+sub-judge-owned c = search needs
+
+part-judge-owned-start : tie.Need-part-judge-owned-start
+part-judge-owned-start c = search needs
+
+part-judge-owned-end : tie.Need-part-judge-owned-end
+part-judge-owned-end c = let k = known (c .before .before .before .before) in omega arith
+
+element-copy-out-judge-owned : tie.Need-element-copy-out-judge-owned
+element-copy-out-judge-owned c = let k = known (c .before .before .before .before .before) in omega arith
+
+again-at-requires : tie.Need-again-at-requires
+again-at-requires c κs = search needs
+
+judge-owned-requires : tie.Need-judge-owned-requires
+judge-owned-requires c κs = search needs
+
+returns : tie.Need-returns
+unfolding judged
+returns c = rw (c .enum-told .given .1)
+
+returns-2 : tie.Need-returns-2
+unfolding judged part
+returns-2 c =
+    let o = c .before .before .before .before .before .before .before .before in
+    let a = o .before .before .before .args in
+    let j = o .own .given .0 .0 in
+    let e : a .i * a .g .chunk + a .g .chunk - a .i * a .g .chunk ≡ a .g .chunk = omega arith in
+    rw (o .own .given .1, ← c .before .again-at .ensures)
+    (c .judge-owned .ensures
+    ∙ ap (λ (n : ℕ). ownedVerdict (take n (drop (a .i * a .g .chunk) (a .heap .now))) (recordAddress (a .g) j) (marked (a .marks .now) j) (c .before .again-at .result)) e)
+
+pub judge-buffer-spec : {M : Type 1} → statement M
+judge-buffer-spec =
+    tie.close
+    (tie.spec
+    enum-told
+    enum-known-own
+    mul-at
+    add-end
+    mul-record-at
+    cast-record-at
+    add-record-at
+    sub-judge-owned
+    part-judge-owned-start
+    part-judge-owned-end
+    element-copy-out-judge-owned
+    again-at-requires
+    judge-owned-requires
+    returns
+    returns-2)

@@ -1,0 +1,46 @@
+-- The chain: "The chain from a record is that record, then the chain from its next word. It starts at the head. It ends at 0, is broken at a word that is no
+-- record's address, and is "again" at a record already met, which is not counted twice." Assumes nothing.
+use mathlib.Core.List.{List, [], _∷_}
+use Prim.Native.Nat.{ℕ, zero, suc, _+_}
+use lib.Dec.{eqb}
+use Rattle.words.specs.Run.{pick}
+use Rattle.area.specs.Place.{placeOf}
+use Rattle.area.specs.Record.{recordSize, recordWord, nextAt}
+use Rattle.area.specs.declared.place.Place.{Place}
+use Rattle.area.specs.declared.place.Place.the-variants.{At, Nowhere}
+use Rattle.verdicts.specs.declared.chain.Ending.{Ending}
+use Rattle.verdicts.specs.declared.chain.Ending.the-variants.{End, Broken, Again}
+
+-- how often x stands in a list
+unfoldable pub occ : ℕ → List ℕ → ℕ
+occ x [] = 0
+occ x (y ∷ l) = pick (eqb x y) 1 0 + occ x l
+
+-- the records that a chain meets, in order, and how it ends
+pub record Chain : Type 0 where
+  pub met : List ℕ
+  pub ending : Ending
+
+-- a chain that stops at once, and one that meets record i first
+abbrev pub stop : Ending → Chain
+stop e = record { met = []; ending = e }
+
+abbrev pub meets : ℕ → Chain → Chain
+meets i c = record { met = i ∷ c .met; ending = c .ending }
+
+-- by the place that a word is the address of
+abbrev pub atPlace : Place → (ℕ → Chain) → Chain → Chain
+atPlace (At i) f c = f i
+atPlace Nowhere f c = c
+
+-- The chain from the word w, where the records `seen` are met already, `next j` is the next word of record j and `at w` the record whose address w is. The
+-- first argument only bounds the number of steps: with one more of them than there are records no chain runs out.
+unfoldable pub chainFrom : (ℕ → ℕ) → (ℕ → Place) → ℕ → List ℕ → ℕ → Chain
+chainFrom next at zero seen w = stop Broken
+chainFrom next at (suc k) seen w =
+    pick (eqb w 0) (stop End)
+    (atPlace (at w) (λ i. pick (eqb (occ i seen) 0) (meets i (chainFrom next at k (i ∷ seen) (next i))) (stop (Again i))) (stop Broken))
+
+-- the chain from the head, of the n records in `records` at the address `base`
+unfoldable pub chainOf : List ℕ → ℕ → ℕ → ℕ → Chain
+chainOf records base n head = chainFrom (λ j. recordWord records j nextAt) (placeOf base recordSize n) (suc n) [] head

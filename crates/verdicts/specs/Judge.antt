@@ -1,0 +1,88 @@
+-- "Verdicts, first rule that holds". Assumes nothing.
+use mathlib.Core.Bool.{Bool, true, false, _&&_, _||_, not}
+use mathlib.Core.List.{List}
+use Prim.Native.Nat.{ℕ}
+use lib.Dec.{eqb}
+use lib.ListN.{getD}
+use Rattle.words.specs.Run.{pick}
+use Rattle.tags.specs.Tag.{patternOf}
+use Rattle.tags.specs.Chunk.{tagAt}
+use Rattle.tags.specs.Judge.{ofPattern}
+use Rattle.tags.specs.declared.tag.Pattern.{Pattern}
+use Rattle.tags.specs.declared.tag.Pattern.the-variants as pattern
+use Rattle.tags.specs.declared.verdict.Verdict.{Verdict}
+use Rattle.tags.specs.declared.verdict.Verdict.the-variants.{NotOneRecord, BadTag, FreedTwice, OffChain, OnChain}
+use Rattle.area.specs.Areas.{bufferAddress, chunkAt, recordAddress}
+use Rattle.verdicts.specs.Chain.{Chain, occ, chainOf}
+use Rattle.verdicts.specs.Pairing.{ownOf}
+use Rattle.area.specs.declared.sheet.Sheet.{Sheet}
+use Rattle.verdicts.specs.declared.chain.Ending.{Ending}
+use Rattle.verdicts.specs.declared.chain.Ending.the-variants.{End, Broken, Again}
+use Rattle.verdicts.specs.declared.pairing.Own.{Own}
+use Rattle.verdicts.specs.declared.pairing.Own.the-variants.{One, NotOne}
+
+abbrev pub isFree : Pattern → Bool
+isFree pattern.Free = true
+isFree pattern.Allocated = false
+isFree pattern.Neither = false
+
+abbrev pub isAllocated : Pattern → Bool
+isAllocated pattern.Free = false
+isAllocated pattern.Allocated = true
+isAllocated pattern.Neither = false
+
+abbrev pub isNeither : Pattern → Bool
+isNeither pattern.Free = false
+isNeither pattern.Allocated = false
+isNeither pattern.Neither = true
+
+-- the rules from 21 on that ask for the pattern p of the chunk c; the record is met by the chain or not, and the chain is "again" at it or not
+unfoldable pub chainedVerdict : List ℕ → Pattern → Bool → Bool → Verdict
+chainedVerdict c p met again =
+    pick (isNeither p) BadTag
+    -- "22: the chain is "again" at its record (freed twice)."
+    (pick again FreedTwice
+    -- "23: free pattern, record not met by the chain."
+    (pick (isFree p && not met) OffChain
+    -- "24: allocated pattern, record met by the chain."
+    (pick (isAllocated p && met) OnChain
+    -- 25 to 28, or free, whole, allocated s
+    (ofPattern p c))))
+
+-- "21: T0 isn't its own record's address, or the xor is neither pattern.", for a record at the address a
+unfoldable pub ownedVerdict : List ℕ → ℕ → Bool → Bool → Verdict
+ownedVerdict c a met again = pick (eqb (tagAt c .t0) a) (chainedVerdict c (patternOf (tagAt c)) met again) BadTag
+
+-- the chain is "again" at record j
+abbrev pub againAt : Ending → ℕ → Bool
+againAt End j = false
+againAt Broken j = false
+againAt (Again i) j = eqb i j
+
+-- "20: not exactly one record names it."
+abbrev pub byOwn : Own → (ℕ → Verdict) → Verdict
+byOwn (One j) f = f j
+byOwn NotOne f = NotOneRecord
+
+-- the verdict on buffer i, given its own record, which records the chain met, and how it ends
+unfoldable pub judged : List ℕ → Sheet → ℕ → Own → (ℕ → Bool) → Ending → Verdict
+judged heap g i own met ending = byOwn own (λ j. ownedVerdict (chunkAt g heap i) (recordAddress g j) (met j) (againAt ending j))
+
+-- the chain of an image
+abbrev pub imageChain : Sheet → List ℕ → Chain
+imageChain g records = chainOf records (g .records) (g .count) (g .head)
+
+-- record j is met by a chain
+abbrev pub metBy : Chain → ℕ → Bool
+metBy c j = not (eqb (occ j (c .met)) 0)
+
+-- the verdict on buffer i of an image
+unfoldable pub verdictOf : Sheet → List ℕ → List ℕ → ℕ → Verdict
+verdictOf g heap records i =
+    judged heap g i (ownOf records (g .count) (bufferAddress g i)) (metBy (imageChain g records)) (imageChain g records .ending)
+
+-- ---- how the code holds it
+
+-- record j has a mark
+abbrev pub marked : List ℕ → ℕ → Bool
+marked marks j = not (eqb (getD marks j 0) 0)

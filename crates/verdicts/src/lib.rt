@@ -1,0 +1,13 @@
+// The chain, each buffer's own record, and the verdict on a buffer.
+//
+// The layer promises: the chain is what document 01's rule makes of the records; a buffer's own record is the one that names
+// it; a buffer's verdict is that of the first rule that holds. What a chunk says is for the layer below.
+
+// The chain of free records.
+pub mod chain;
+
+// Each buffer's own record.
+pub mod pairing;
+
+// The verdict on a buffer.
+pub mod judge;
