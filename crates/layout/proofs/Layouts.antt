@@ -1,9 +1,9 @@
 -- The laws of an image that is laid out: parts of one width, one after the other, and what the steps of the code come to. Assumes nothing.
 use mathlib.Core.Path.{_≡_, refl, sym, ap, _∙_, subst}
 use mathlib.Core.Bool.{Bool, true, false}
-use mathlib.Core.List.{List, [], _∷_, _++_}
+use mathlib.Core.List.{List, _++_}
 use Prim.Native.Nat.{ℕ, zero, suc, _+_, _*_, _≤_, _<_}
-use native.Mathlib.Nat.{zero-mul, suc-mul}
+use native.Mathlib.Nat.{add-zero, zero-mul, suc-mul}
 use native.Mathlib.Decide.{ℕ-discrete}
 use native.Mathlib.Numerals.{add-one}
 use native.Mathlib.Omega.{arith}
@@ -126,7 +126,7 @@ module _ (g : Sheet) where
 
   -- four words and a fill in a row are a record
   pub record-run : (l a b c d e : List ℕ) (at i link buffer : ℕ) → link ≡ linkTo g (suc i) → buffer ≡ bufferAddress g i
-      → a ≡ sets l at (bytesOf 4 link)
+      → a ≡ sets l (at + 0) (bytesOf 4 link)
       → b ≡ sets a (at + 4) (bytesOf 4 buffer)
       → c ≡ sets b (at + 8) (bytesOf 4 0)
       → d ≡ sets c (at + 12) (bytesOf 4 (g .cache))
@@ -138,7 +138,7 @@ module _ (g : Sheet) where
       let p₂ = p₁ ++ bytesOf 4 buffer in
       let p₃ = p₂ ++ bytesOf 4 0 in
       let p₄ = p₃ ++ bytesOf 4 (g .cache) in
-      let q₂ = sets-next l p₁ (bytesOf 4 buffer) at 4 (at + 4) ea (length-bytesOf 4 link) refl eb in
+      let q₂ = sets-next l p₁ (bytesOf 4 buffer) at 4 (at + 4) (ea ∙ ap (λ (k : ℕ). sets l k (bytesOf 4 link)) (add-zero at)) (length-bytesOf 4 link) refl eb in
       let q₃ = sets-next l p₂ (bytesOf 4 0) at 8 (at + 8) q₂ (simp (length-append, length-bytesOf)) refl ec in
       let q₄ = sets-next l p₃ (bytesOf 4 (g .cache)) at 12 (at + 12) q₃ (simp (length-append, length-bytesOf)) refl ed in
       rw (← el, ← eu, ← zeros) (sets-next l p₄ (repeated 80 0) at 16 (at + 16) q₄ (simp (length-append, length-bytesOf)) refl ee)

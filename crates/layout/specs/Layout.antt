@@ -1,9 +1,8 @@
 -- "Lay out, given the cache address, bases, size and n: writes all three areas; all buffers free; buffer i paired with record i; chain 0 to n-1 in order; each
 -- record holds next, address and cache, all else 0." Assumes nothing.
 use mathlib.Core.Path.{_≡_}
-use mathlib.Core.Bool.{_&&_}
 use mathlib.Core.List.{List, [], _++_}
-use Prim.Native.Nat.{ℕ, zero, suc, _+_, _*_}
+use Prim.Native.Nat.{ℕ, zero, suc, _+_}
 use lib.Dec.{eqb, ltb}
 use lib.ListN.{length, replicate}
 use Rattle.words.specs.Word.{bytesOf}

@@ -1,7 +1,7 @@
 // The chunks of the heap and the records, one after the other: buffer i is paired with record i, and record i leads to
 // record i + 1.
 ghost use mathlib.Core.Path.{_≡_};
-ghost use Prim.Native.Nat.{_*_, _≤_, _<_};
+ghost use Prim.Native.Nat.{_*_, _<_};
 ghost use lib.ListN.{length};
 ghost use lib.Seq.{sets};
 ghost use Rattle.tags.specs.Chunk.{freeChunk};
@@ -14,6 +14,9 @@ use area::sheet::Sheet;
 use tags::chunk;
 use words::run;
 use words::word;
+
+// How many bytes of a record there are from the stamp on.
+const UNSTAMPED: usize = 80;
 
 // Writes chunk i, that of a free buffer.
 fn write_chunk(heap: &mut [u8], g: Sheet, i: usize)
@@ -63,11 +66,11 @@ fn write_record(records: &mut [u8], g: Sheet, i: usize)
 {
     let at = i * record::SIZE;
     let buffer = i * g.chunk;
-    word::write_u32(records, at, link_to(g, i + 1));
-    word::write_u32(records, at + 4, g.heap + buffer as u32);
-    word::write_u32(records, at + 8, 0);
-    word::write_u32(records, at + 12, g.cache);
-    run::fill(records, at + 16, 80, 0);
+    word::write_u32(records, at + record::NEXT, link_to(g, i + 1));
+    word::write_u32(records, at + record::BUFFER, g.heap + buffer as u32);
+    word::write_u32(records, at + record::SLAB, 0);
+    word::write_u32(records, at + record::CACHE, g.cache);
+    run::fill(records, at + record::STAMP_HIGH, UNSTAMPED, 0);
 }
 
 // Writes every record.

@@ -11,7 +11,7 @@ use lib.ListN.{length, replicate, length-append}
 use Rattle.words.specs.Word.{part, number, bytesOf, numberAt}
 use Rattle.words.specs.Run.{pick}
 use Rattle.words.proofs.Laws.{part-part, part-left, part-right, part-all, part-front, length-bytesOf}
-use Rattle.area.specs.Areas.{Areas, refusedWith, bufferAddress, recordAddress}
+use Rattle.area.specs.Areas.{Areas, refusedWith, bufferAddress}
 use Rattle.area.specs.Sheet.{lawful, lengthsRight}
 use Rattle.area.specs.Record.{recordWord, addressWord, nextWord}
 use Rattle.image.specs.Walk.{Linked}

@@ -15,6 +15,9 @@ mul-at c = search needs
 mul-buffer : tie.Need-mul-buffer
 mul-buffer c = let s = c .before .before in let k = chunk-small _ (s .pre .0) _ (s .pre .1 .0) in omega arith
 
+add-write-u32 : tie.Need-add-write-u32
+add-write-u32 c = search needs
+
 add-link-to : tie.Need-add-link-to
 add-link-to c = search needs
 
@@ -24,26 +27,26 @@ link-to-requires c κs = search needs
 write-u32-requires : tie.Need-write-u32-requires
 write-u32-requires c κs = search needs
 
-add-write-u32 : tie.Need-add-write-u32
-add-write-u32 c = search needs
+add-write-u32-2 : tie.Need-add-write-u32-2
+add-write-u32-2 c = search needs
 
 cast-write-u32 : tie.Need-cast-write-u32
 cast-write-u32 c = let s = c .before .before .before .before .before .before .before .before in let k = chunk-small _ (s .pre .0) _ (s .pre .1 .0) in omega arith
 
-add-write-u32-2 : tie.Need-add-write-u32-2
-add-write-u32-2 c = let s = c .before .before .before .before .before .before .before .before .before in let k = buffer-word _ (s .pre .0) _ (s .pre .1 .0) in omega (arith, s .pre .0 .chunks)
+add-write-u32-3 : tie.Need-add-write-u32-3
+add-write-u32-3 c = let s = c .before .before .before .before .before .before .before .before .before in let k = buffer-word _ (s .pre .0) _ (s .pre .1 .0) in omega (arith, s .pre .0 .chunks)
 
 write-u32-requires-2 : tie.Need-write-u32-requires-2
 write-u32-requires-2 c κs = search needs
 
-add-write-u32-3 : tie.Need-add-write-u32-3
-add-write-u32-3 c = search needs
+add-write-u32-4 : tie.Need-add-write-u32-4
+add-write-u32-4 c = search needs
 
 write-u32-requires-3 : tie.Need-write-u32-requires-3
 write-u32-requires-3 c κs = search needs
 
-add-write-u32-4 : tie.Need-add-write-u32-4
-add-write-u32-4 c = search needs
+add-write-u32-5 : tie.Need-add-write-u32-5
+add-write-u32-5 c = search needs
 
 write-u32-requires-4 : tie.Need-write-u32-requires-4
 write-u32-requires-4 c κs = search needs
@@ -68,16 +71,17 @@ write-record-spec =
     (tie.spec
     mul-at
     mul-buffer
+    add-write-u32
     add-link-to
     link-to-requires
     write-u32-requires
-    add-write-u32
-    cast-write-u32
     add-write-u32-2
-    write-u32-requires-2
+    cast-write-u32
     add-write-u32-3
-    write-u32-requires-3
+    write-u32-requires-2
     add-write-u32-4
+    write-u32-requires-3
+    add-write-u32-5
     write-u32-requires-4
     add-fill
     fill-requires
