@@ -1,11 +1,11 @@
 -- What a call writes for a record. Assumes nothing.
-use mathlib.Core.Path.{_≡_, ap, _∙_}
-use mathlib.Core.List.{List, _++_}
+use mathlib.Core.Path.{_≡_}
+use mathlib.Core.List.{List}
 use Prim.Native.Nat.{ℕ, _+_, _*_}
 use native.Mathlib.Omega.{arith}
 use lib.Seq.{sets}
 use Rattle.words.specs.Word.{bytesOf}
-use Rattle.words.proofs.Laws.{length-bytesOf, sets-then}
+use Rattle.words.proofs.Laws.{sets-three}
 use Rattle.area.specs.Areas.{stamped}
 use Rattle.area.specs.Record.{recordSize, stampHighAt, stampLowAt, threadAt}
 
@@ -17,9 +17,5 @@ pub stamped-run : (l a b c : List ℕ) (j uptime thread : ℕ)
     → c ≡ stamped l j uptime thread
 unfolding stamped bytesOf
 stamped-run l a b c j uptime thread ea eb ec =
-    let at = j * recordSize + stampHighAt in
-    ec
-    ∙ ap (λ (x : List ℕ). sets x (j * recordSize + threadAt) (bytesOf 4 thread)) eb
-    ∙ sets-then a (j * recordSize + stampLowAt) 4 (j * recordSize + threadAt) (bytesOf 4 uptime) (bytesOf 4 thread) (length-bytesOf 4 uptime) (omega arith)
-    ∙ ap (λ (x : List ℕ). sets x (j * recordSize + stampLowAt) (bytesOf 4 uptime ++ bytesOf 4 thread)) ea
-    ∙ sets-then l at 4 (j * recordSize + stampLowAt) (bytesOf 4 0) (bytesOf 4 uptime ++ bytesOf 4 thread) (length-bytesOf 4 0) (omega arith)
+    sets-three l (bytesOf 4 0) (bytesOf 4 uptime) (bytesOf 4 thread) (j * recordSize + stampHighAt) (j * recordSize + stampLowAt) (j * recordSize + threadAt)
+    (omega arith) (omega arith) ea eb ec

@@ -1,17 +1,19 @@
 -- What is known of a sheet that passed its tests. Assumes nothing.
-use mathlib.Core.Path.{_≡_, refl, ap, subst, _∙_}
+use mathlib.Core.Path.{_≡_, refl, sym, ap, subst, _∙_}
 use mathlib.Core.Logic.{_⊎_, inl, inr}
 use mathlib.Core.Bool.{Bool, true, false, _&&_, _||_, and-assoc, and-true as and-right}
-use mathlib.Core.List.{List}
-use Prim.Native.Nat.{ℕ, _+_, _*_, _%_, _≤_, _<_}
-use lib.ListN.{length}
+use mathlib.Core.List.{List, _++_}
+use Prim.Native.Nat.{ℕ, _+_, _-_, _*_, _%_, _≤_, _<_}
+use lib.ListN.{length, take, drop}
+use lib.Seq.{sets}
 use native.Mathlib.Nat.{mul-le-mul}
 use native.Mathlib.Omega.{arith}
 use borrow.Author.Tests.{eqb-true, eqb-false, leb-true, not-true}
 use lib.Dec.{eqb, leb}
+use Rattle.words.specs.Word.{part}
 use Rattle.words.specs.Run.{pick}
-use Rattle.words.proofs.Laws.{below}
-use Rattle.tags.specs.Chunk.{ChunkLength}
+use Rattle.words.proofs.Laws.{below, length-part, part-back}
+use Rattle.tags.specs.Chunk.{ChunkLength, bufferSize}
 use Rattle.tags.proofs.Laws.{and-true}
 use Rattle.area.specs.Record.{recordSize}
 use Rattle.area.specs.Sheet.{fields, fieldsFrom, shaped, sheetOf, lengthsRight, measured, numbered, openedOf, openedWithLog, onOpened, logRight, sizesLawful, basesLawful, lawful, Lawful, heapLength, recordsLength}
@@ -32,6 +34,7 @@ pub record Sizes (size chunk n flags : ℕ) : Type 0 where
   pub some : 1 ≤ n
   pub few : n ≤ 512
   pub area : n * chunk ≤ 65536
+  pub flagsAre : flags ≡ 0x020f
 
 pub sizes-known : (size chunk n flags : ℕ) → sizesLawful size chunk n flags ≡ true → Sizes size chunk n flags
 unfolding sizesLawful
@@ -51,6 +54,7 @@ sizes-known size chunk n flags e =
       some = leb-true _ _ (d .1);
       few = leb-true _ _ (c .1);
       area = leb-true _ _ (b .1);
+      flagsAre = eqb-true _ _ (a .1);
     }
 
 or-true : (a b : Bool) → a || b ≡ true → (a ≡ true) ⊎ (b ≡ true)
@@ -107,6 +111,7 @@ lawful-known g e =
       some = s .some;
       few = s .few;
       area = s .area;
+      flagsAre = s .flagsAre;
       heapSome = b .heapSome;
       heapEights = b .heapEights;
       recordsSome = b .recordsSome;
@@ -151,6 +156,35 @@ module _ (g : Sheet) (law : Lawful g) (i : ℕ) (h : i < g .count) where
 -- the length of a chunk
 pub chunk-length : (g : Sheet) → Lawful g → ChunkLength (g .chunk)
 chunk-length g law = let e = law .chunks in let l = law .least in let m = law .most in let s = law .eights in record { least = omega arith; most = omega arith; eights = omega arith }
+
+-- ---- the chunk of buffer i, as it is lent and given back
+
+module _ (l : List ℕ) (g : Sheet) (i : ℕ) (law : Lawful g) (long : length l ≡ heapLength g) (h : i < g .count) where
+  span : i * g .chunk + g .chunk - i * g .chunk ≡ g .chunk
+  span = omega arith
+
+  inside : i * g .chunk + g .chunk ≤ length l
+  inside = let c = chunk-inside g law i h in omega arith
+
+  pub lent-long : length (take (i * g .chunk + g .chunk - i * g .chunk) (drop (i * g .chunk) l)) ≡ g .chunk
+  unfolding part
+  lent-long = ap (λ (n : ℕ). length (take n (drop (i * g .chunk) l))) span ∙ length-part l (i * g .chunk) (g .chunk) inside
+
+  pub lent-size : bufferSize (take (i * g .chunk + g .chunk - i * g .chunk) (drop (i * g .chunk) l)) ≡ g .size
+  lent-size = let e = lent-long in let c = law .chunks in omega arith
+
+  pub lent-lawful : ChunkLength (length (take (i * g .chunk + g .chunk - i * g .chunk) (drop (i * g .chunk) l)))
+  lent-lawful = subst ChunkLength (sym lent-long) (chunk-length g law)
+
+  -- a chunk f of the lent one's size comes back in its place
+  pub chunk-back : (f : ℕ → List ℕ) (ys : List ℕ) → ((n : ℕ) → length (f n) ≡ n + 16)
+      → ys ≡ f (bufferSize (take (i * g .chunk + g .chunk - i * g .chunk) (drop (i * g .chunk) l)))
+      → take (i * g .chunk) l ++ (ys ++ drop (i * g .chunk + g .chunk - i * g .chunk) (drop (i * g .chunk) l)) ≡ sets l (i * g .chunk) (f (g .size))
+  chunk-back f ys size e =
+      let c = law .chunks in
+      ap (λ (n : ℕ). take (i * g .chunk) l ++ (ys ++ drop n (drop (i * g .chunk) l))) span
+      ∙ ap (λ (vs : List ℕ). take (i * g .chunk) l ++ (vs ++ drop (g .chunk) (drop (i * g .chunk) l))) (e ∙ ap f lent-size)
+      ∙ part-back l (f (g .size)) (i * g .chunk) (g .chunk) (size (g .size) ∙ sym c) inside
 
 -- ---- an image that is open
 

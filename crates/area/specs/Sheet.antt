@@ -103,6 +103,7 @@ pub record Lawful (g : Sheet) : Type 0 where
   pub some : 1 ≤ g .count
   pub few : g .count ≤ 512
   pub area : g .count * g .chunk ≤ 65536
+  pub flagsAre : g .flags ≡ 0x020f
   pub heapSome : 0 < g .heap
   pub heapEights : g .heap % 8 ≡ 0
   pub recordsSome : 0 < g .records

@@ -1,5 +1,5 @@
-// The words of a record: next at 0, the buffer's address at 4, the stamp's high half at 16 and its low half at 20, the
-// thread at 24.
+// The words of a record: next at 0, the buffer's address at 4, the slab at 8, the cache at 12, the stamp's high half at 16
+// and its low half at 20, the thread at 24.
 ghost use mathlib.Core.Path.{_≡_};
 ghost use Prim.Native.Nat.{_+_, _*_, _≤_};
 ghost use lib.ListN.{length};
@@ -12,6 +12,10 @@ pub const SIZE: usize = 96;
 pub const NEXT: usize = 0;
 
 pub const BUFFER: usize = 4;
+
+pub const SLAB: usize = 8;
+
+pub const CACHE: usize = 12;
 
 pub const STAMP_HIGH: usize = 16;
 

@@ -1,16 +1,18 @@
 -- "Lay out, given the cache address, bases, size and n: writes all three areas; all buffers free; buffer i paired with record i; chain 0 to n-1 in order; each
 -- record holds next, address and cache, all else 0." Assumes nothing.
-use mathlib.Core.Bool.{_&&_}
+use mathlib.Core.Path.{_≡_}
 use mathlib.Core.List.{List, [], _++_}
-use Prim.Native.Nat.{ℕ, zero, suc, _+_, _*_}
+use Prim.Native.Nat.{ℕ, zero, suc, _+_}
 use lib.Dec.{eqb, ltb}
 use lib.ListN.{length, replicate}
 use Rattle.words.specs.Word.{bytesOf}
 use Rattle.words.specs.Run.{pick}
 use Rattle.tags.specs.Chunk.{freeChunk}
 use Rattle.area.specs.Areas.{Areas, Result, refusedWith, bufferAddress, recordAddress}
-use Rattle.area.specs.Sheet.{lawful, lengthsRight}
+use Rattle.area.specs.Sheet.{lawful, lengthsRight, numbered, Open}
 use Rattle.area.specs.declared.sheet.Sheet.{Sheet}
+use Rattle.area.specs.declared.sheet.Opened.{Opened}
+use Rattle.area.specs.declared.sheet.Opened.the-variants as opened
 use Rattle.area.specs.declared.refusal.Refusal.the-variants.{BadSheet, BadNumber, BadLength}
 use Rattle.area.specs.declared.refusal.Outcome.{Outcome}
 use Rattle.area.specs.declared.refusal.Outcome.the-variants.{Done, Refused}
@@ -75,3 +77,17 @@ layOutOf a cache heap records size n =
     (refusedWith (Refused BadLength) a))
     (refusedWith (Refused BadNumber) a))
     (refusedWith (Refused BadSheet) a)
+
+-- ---- the plan: the same tests, with the sheet's numbers where they pass
+
+unfoldable pub planOf : Sheet → ℕ → ℕ → ℕ → Opened
+planOf g s h r = pick (eqb s 48) (numbered g h r) (opened.Refused BadSheet)
+
+-- what a plan promises to who carries it out
+pub record Planned (s h r : ℕ) (g : Sheet) : Type 0 where
+  pub long : s ≡ 48
+  pub opens : Open h r g
+
+abbrev pub PlannedIf : ℕ → ℕ → ℕ → Opened → Type 0
+PlannedIf s h r (opened.Image g) = Planned s h r g
+PlannedIf s h r (opened.Refused why) = Unit {0}

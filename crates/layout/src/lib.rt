@@ -1,1 +1,85 @@
-// Lay out: an image in which every buffer is free.
+// Lay out: an image in which every buffer is free. A plan that only reads, and a commit that cannot fail.
+//
+// The layer promises: the three areas of a lawful request are written whole, buffer i paired with record i and the chain
+// from record 0 on in order; any other request is refused, and every lent byte is as before.
+ghost use mathlib.Core.Path.{_≡_};
+ghost use lib.ListN.{length};
+ghost use Rattle.area.specs.Areas.{areas};
+ghost use Rattle.layout.specs.Layout.{laidSheet, laidAreas, layOutOf, planOf, PlannedIf, Planned};
+use area::refusal::Outcome;
+use area::refusal::Refusal;
+use area::sheet;
+use area::sheet::Opened;
+use area::sheet::Sheet;
+
+// The bytes of the sheet.
+mod fields;
+
+// The chunks and the records.
+mod places;
+
+// The numbers of the sheet that a request asks for.
+fn sheet_for(cache: u32, heap_base: u32, record_base: u32, size: u32, count: u32) -> Sheet
+    ensures { λ r. ⌜ r ≡ laidSheet cache «heap_base» «record_base» size count ⌝ }
+{
+    Sheet {
+        cache,
+        heap: heap_base,
+        records: record_base,
+        size: size as usize,
+        chunk: size as usize + 16,
+        count: count as usize,
+        head: record_base,
+        flags: sheet::FLAGS,
+    }
+}
+
+// Whether areas of these lengths can be laid out with these numbers: the tests 1, 2 and 3.
+fn plan(g: Sheet, sheet_len: usize, heap_len: usize, records_len: usize) -> Opened
+    ensures { λ r. ⌜ r ≡ planOf g «sheet_len» «heap_len» «records_len» ⌝ }
+    ensures { λ r. ⌜ PlannedIf «sheet_len» «heap_len» «records_len» r ⌝ }
+{
+    if sheet_len != sheet::LENGTH {
+        return Opened::Refused(Refusal::BadSheet);
+    }
+    sheet::judge_numbers(g, heap_len, records_len)
+}
+
+// Writes all three areas.
+fn commit(sheet: &mut [u8], heap: &mut [u8], records: &mut [u8], g: Sheet)
+    requires { ⌜ Planned (length (now sheet)) (length (now heap)) (length (now records)) g ⌝ }
+    ensures sheet { λ _. ⌜ now (sheet .exit) ≡ laidAreas g .sheet ⌝ }
+    ensures heap { λ _. ⌜ now (heap .exit) ≡ laidAreas g .heap ⌝ }
+    ensures records { λ _. ⌜ now (records .exit) ≡ laidAreas g .records ⌝ }
+{
+    fields::write_sheet(sheet, g);
+    places::write_heap(heap, g);
+    places::write_records(records, g);
+}
+
+// Lays an image out, or refuses and leaves every byte as it was.
+pub fn lay_out(
+    cache: u32,
+    heap_base: u32,
+    record_base: u32,
+    size: u32,
+    count: u32,
+    sheet: &mut [u8],
+    heap: &mut [u8],
+    records: &mut [u8],
+) -> Outcome
+    ensures answer { λ r. ⌜ r ≡ layOutOf (areas (now (sheet .entry)) (now (heap .entry)) (now (records .entry))) cache «heap_base» «record_base» size count .answer ⌝ }
+    ensures sheet { λ _. ⌜ now (sheet .exit) ≡ layOutOf (areas (now (sheet .entry)) (now (heap .entry)) (now (records .entry))) cache «heap_base» «record_base» size count .areas .sheet ⌝ }
+    ensures heap { λ _. ⌜ now (heap .exit) ≡ layOutOf (areas (now (sheet .entry)) (now (heap .entry)) (now (records .entry))) cache «heap_base» «record_base» size count .areas .heap ⌝ }
+    ensures records { λ _. ⌜ now (records .exit) ≡ layOutOf (areas (now (sheet .entry)) (now (heap .entry)) (now (records .entry))) cache «heap_base» «record_base» size count .areas .records ⌝ }
+{
+    let asked = sheet_for(cache, heap_base, record_base, size, count);
+    let planned = plan(asked, sheet.len(), heap.len(), records.len());
+    match planned {
+        Opened::Refused(why) => Outcome::Refused(why),
+        Opened::Image(g) => {
+            commit(sheet, heap, records, g);
+            Outcome::Done
+        }
+    }
+}

@@ -1,16 +1,14 @@
--- Laws of runs of bytes: one written over another, one written where it stands already, and lists of equal parts one after the other. Assumes nothing.
-use mathlib.Core.Path.{_≡_, refl, sym, ap, _∙_, subst}
+-- Laws of runs of bytes: one written over another, and one written where it stands already. Assumes nothing.
+use mathlib.Core.Path.{_≡_, refl, sym, ap, _∙_}
 use mathlib.Core.List.{List, [], _∷_, _++_}
-use Prim.Native.Nat.{ℕ, zero, suc, _+_, _*_, _≤_, _<_}
-use native.Mathlib.Nat.{zero-add, zero-mul, suc-mul}
-use native.Mathlib.Decide.{ℕ-discrete}
+use Prim.Native.Nat.{ℕ, suc, _+_, _≤_, _<_}
+use native.Mathlib.Nat.{zero-add}
 use native.Mathlib.Omega.{arith}
-use lib.ListN.{length, take, drop, getD, set, length-set, length-append, take-append-drop}
+use lib.ListN.{length, take, drop, getD, set, length-set, take-append-drop}
 use lib.Seq.{sets, length-sets, sets-eq, set-append-left, length-take-le, ext-getD}
 use Rattle.words.specs.Word.{part}
 use Rattle.words.specs.Run.{repeated}
-use Rattle.words.proofs.Laws.{length-part, getD-part, part-left, part-right, part-all, length-repeated, getD-repeated, below}
-use Rattle.layout.specs.Layout.{flat}
+use Rattle.words.proofs.Laws.{length-part, getD-part, length-repeated, getD-repeated}
 
 -- a run written in the first of two lists
 pub sets-left : (vs xs ys : List ℕ) (o : ℕ) → o + length vs ≤ length xs → sets (xs ++ ys) o vs ≡ sets xs o vs ++ ys
@@ -51,25 +49,3 @@ part-repeated n k w h =
     ∙ ap (λ (x : ℕ). getD (repeated n w) x 0) (zero-add i)
     ∙ getD-repeated n w i (omega arith)
     ∙ sym (getD-repeated k w i q))
-
--- ---- parts of s bytes, one after the other
-
-module _ (s : ℕ) (f : ℕ → List ℕ) (size : (i : ℕ) → length (f i) ≡ s) where
-  pub length-flat : (n : ℕ) → length (flat n f) ≡ n * s
-  unfolding flat
-  length-flat zero = sym (zero-mul s)
-  length-flat (suc n) = simp (length-append, length-flat n, size, suc-mul)
-
-  last : (n : ℕ) → part (flat n f ++ f n) (n * s) s ≡ f n
-  last n = part-right (flat n f) (f n) (n * s) 0 s (omega (arith, length-flat n)) ∙ part-all (f n) s (size n)
-
-  pub part-flat : (n i : ℕ) → i < n → part (flat n f) (i * s) s ≡ f i
-  unfolding flat
-  part-flat zero i h = absurd (omega arith)
-  part-flat (suc n) i h = go (ℕ-discrete i n) (part-flat n i)
-    where
-      go : Dec (i ≡ n) → (i < n → part (flat n f) (i * s) s ≡ f i) → part (flat n f ++ f n) (i * s) s ≡ f i
-      go (yes e) ih = subst (λ (x : ℕ). part (flat n f ++ f n) (x * s) s ≡ f x) (sym e) (last n)
-      go (no ne) ih =
-          let g : i < n = omega arith in
-          part-left (flat n f) (f n) (i * s) s (omega (arith, below s g, length-flat n)) ∙ ih g

@@ -6,15 +6,12 @@ use mathlib.Core.Option.{none, some}
 use Prim.Native.Nat.{ℕ, zero, suc, _+_, _*_, _≤_, _<_}
 use native.Mathlib.Decide.{decLt}
 use native.Mathlib.Omega.{arith}
-use borrow.Author.Tests.{lt-ltb, le-ltb}
 use lib.Dec.{eqb, lit<}
-use lib.ListN.{length, replicate, length-append, length-replicate}
+use lib.ListN.{length, replicate, length-append}
 use Rattle.words.specs.Word.{part, number, bytesOf, numberAt}
 use Rattle.words.specs.Run.{pick}
 use Rattle.words.proofs.Laws.{part-part, part-left, part-right, part-all, part-front, length-bytesOf}
-use Rattle.tags.specs.Chunk.{freeChunk}
-use Rattle.tags.proofs.Laws.{length-freeChunk}
-use Rattle.area.specs.Areas.{Areas, refusedWith, bufferAddress, recordAddress}
+use Rattle.area.specs.Areas.{Areas, refusedWith, bufferAddress}
 use Rattle.area.specs.Sheet.{lawful, lengthsRight}
 use Rattle.area.specs.Record.{recordWord, addressWord, nextWord}
 use Rattle.verdicts.specs.Walk.{Linked}
@@ -23,30 +20,18 @@ use Rattle.area.specs.declared.sheet.Sheet.{Sheet}
 use Rattle.area.specs.declared.refusal.Refusal.the-variants.{BadSheet, BadNumber, BadLength}
 use Rattle.area.specs.declared.refusal.Outcome.the-variants.{Done, Refused}
 use Rattle.area.proofs.Sheets.{lawful-known, buffer-word}
-use Rattle.ledger.proofs.Runs.{length-flat, part-flat}
+use Rattle.layout.proofs.Layouts.{length-flat, part-flat, link-in, link-out, length-recordBytes, laid-chunk, laid-long}
 use Rattle.ledger.proofs.Chunks.{word-back}
 use Rattle.ledger.proofs.Counts.{range, occ-within, occ-above}
 use Rattle.ledger.proofs.State.{Laid, Holds, record-fits, chunk-some}
 
 module _ (g : Sheet) (laid : Laid g) where
-  link-in : (i : ℕ) → i < g .count → linkTo g i ≡ recordAddress g i
-  unfolding linkTo
-  link-in i h = rw (lt-ltb i (g .count) h)
-
-  link-out : (i : ℕ) → g .count ≤ i → linkTo g i ≡ 0
-  unfolding linkTo
-  link-out i h = rw (le-ltb i (g .count) h)
-
   link-fits : (i : ℕ) → linkTo g i < 4294967296
   link-fits i = go (decLt i (g .count))
     where
       go : Dec (i < g .count) → linkTo g i < 4294967296
-      go (yes h) = omega (arith, link-in i h, record-fits g laid i h)
-      go (no h) = omega (arith, link-out i (omega arith))
-
-  length-recordBytes : (j : ℕ) → length (recordBytes g j) ≡ 96
-  unfolding recordBytes
-  length-recordBytes j = simp (length-append, length-bytesOf, length-replicate)
+      go (yes h) = omega (arith, link-in g i h, record-fits g laid i h)
+      go (no h) = omega (arith, link-out g i (omega arith))
 
   -- a word of a record as laid
   laid-word : (j o : ℕ) → j < g .count → o + 4 ≤ 96 → recordWord (flat (g .count) (recordBytes g)) j o ≡ number (part (recordBytes g j) o 4)
@@ -54,7 +39,7 @@ module _ (g : Sheet) (laid : Laid g) where
   laid-word j o h k =
       ap number
       (sym (part-part (flat (g .count) (recordBytes g)) (j * 96) 96 o 4 k)
-      ∙ ap (λ (x : List ℕ). part x o 4) (part-flat 96 (recordBytes g) length-recordBytes (g .count) j h))
+      ∙ ap (λ (x : List ℕ). part x o 4) (part-flat 96 (recordBytes g) (length-recordBytes g) (g .count) j h))
 
   -- the first two words of a record
   first-two : (x y : ℕ) (p q r : List ℕ) (o w : ℕ) → part (bytesOf 4 x ++ bytesOf 4 y) o 4 ≡ bytesOf 4 w → o + 4 ≤ 8
@@ -91,35 +76,29 @@ module _ (g : Sheet) (laid : Laid g) where
 
   laid-linked : (i m : ℕ) → i + m ≡ g .count → Linked (nextWord (flat (g .count) (recordBytes g))) (g .records) (g .count) (linkTo g i) (range i m)
   unfolding Linked range
-  laid-linked i zero e = link-out i (omega arith)
+  laid-linked i zero e = link-out g i (omega arith)
   laid-linked i (suc m) e =
       let h : i < g .count = omega arith in (
         h,
         (
-          link-in i h,
+          link-in g i h,
           subst (λ (x : ℕ). Linked (nextWord (flat (g .count) (recordBytes g))) (g .records) (g .count) x (range (suc i) m)) (sym (laid-next i h))
               (laid-linked (suc i) m (omega arith)),
         ),
       )
 
-  abbrev laid-chunk : ℕ → List ℕ
-  laid-chunk i = freeChunk (g .size) (recordAddress g i)
-
-  laid-long : (i : ℕ) → length (laid-chunk i) ≡ g .chunk
-  laid-long i = omega (arith, length-freeChunk (g .size) (recordAddress g i), laid .law .chunks)
-
   pub laid-holds : g .head ≡ g .records → Holds g (g .head) (laidAreas g) (λ x. none) (range 0 (g .count))
   unfolding laidAreas
   laid-holds e = record {
     sheetIs = refl;
-    heapLong = length-flat (g .chunk) laid-chunk laid-long (g .count);
-    recordsLong = length-flat 96 (recordBytes g) length-recordBytes (g .count);
+    heapLong = length-flat (g .chunk) (laid-chunk g) (laid-long g (laid .law)) (g .count);
+    recordsLong = length-flat 96 (recordBytes g) (length-recordBytes g) (g .count);
     linked = subst (λ (x : ℕ). Linked (nextWord (flat (g .count) (recordBytes g))) (g .records) (g .count) x (range 0 (g .count)))
-        (link-in 0 (laid .law .some) ∙ omega arith)
+        (link-in g 0 (laid .law .some) ∙ omega arith)
         (laid-linked 0 (g .count) (omega arith));
     each = λ j h. omega (arith, occ-within 0 (g .count) j (omega arith) (omega arith));
     only = λ j h. occ-above 0 (g .count) j (omega arith);
-    chunks = λ j h. part-flat (g .chunk) laid-chunk laid-long (g .count) j h;
+    chunks = λ j h. part-flat (g .chunk) (laid-chunk g) (laid-long g (laid .law)) (g .count) j h;
     names = laid-name;
     loans = λ j h. tt;
     stray = λ x h. refl;

@@ -16,7 +16,7 @@ use Rattle.words.specs.Word.{part, bytesOf}
 use Rattle.words.specs.Run.{pick, repeated, difference}
 use Rattle.words.specs.declared.run.Difference.{Difference}
 use Rattle.words.specs.declared.run.Difference.the-variants.{At, Nowhere}
-use Rattle.words.proofs.Laws.{sets-then, sets-whole, length-bytesOf, length-repeated, repeated-once}
+use Rattle.words.proofs.Laws.{sets-next, sets-whole, length-bytesOf, length-repeated, repeated-once}
 use Rattle.tags.specs.Tag.{tagOf, patternOf, patternWord, stateWord, statePattern}
 use Rattle.tags.specs.SizeCode.{codeOf, decodedOf}
 use Rattle.tags.specs.Chunk.{redzone, guard, bufferSize, chunkOf, freeChunk, grantedChunk}
@@ -98,10 +98,6 @@ decoded-within code most s e = go (eqb (code % 251) 1 && (leb 1 (code / 251) && 
 
 -- ---- a chunk is written
 
--- `vs` is written behind `p`, which stands at the front
-next : (l p vs : List ℕ) (at : ℕ) {s t : List ℕ} → s ≡ sets l 0 p → length p ≡ at → t ≡ sets s at vs → t ≡ sets l 0 (p ++ vs)
-next l p vs at {s} {t} es len et = rw (et, es) (sets-then l 0 at at p vs len (omega arith))
-
 -- the fill and then four words are written one after the other over `l`
 pub laid : (l s₀ s₁ s₂ s₃ s₄ : List ℕ) (n w r1 t0 t1 : ℕ) → length l ≡ n + 16 → s₀ ≡ sets l 0 (repeated n w)
     → s₁ ≡ sets s₀ n (bytesOf 4 redzone) → s₂ ≡ sets s₁ (n + 4) (bytesOf 4 r1) → s₃ ≡ sets s₂ (n + 8) (bytesOf 4 t0)
@@ -112,10 +108,10 @@ laid l s₀ s₁ s₂ s₃ s₄ n w r1 t0 t1 el e₀ e₁ e₂ e₃ e₄ =
     let p₁ = p₀ ++ bytesOf 4 redzone in
     let p₂ = p₁ ++ bytesOf 4 r1 in
     let p₃ = p₂ ++ bytesOf 4 t0 in
-    let f₁ = next l p₀ (bytesOf 4 redzone) n e₀ (length-repeated n w) e₁ in
-    let f₂ = next l p₁ (bytesOf 4 r1) (n + 4) f₁ (simp (length-append, length-bytesOf, length-repeated)) e₂ in
-    let f₃ = next l p₂ (bytesOf 4 t0) (n + 8) f₂ (simp (length-append, length-bytesOf, length-repeated) (omega arith)) e₃ in
-    let f₄ = next l p₃ (bytesOf 4 t1) (n + 12) f₃ (simp (length-append, length-bytesOf, length-repeated) (omega arith)) e₄ in
+    let f₁ = sets-next l p₀ (bytesOf 4 redzone) 0 n n e₀ (length-repeated n w) (omega arith) e₁ in
+    let f₂ = sets-next l p₁ (bytesOf 4 r1) 0 (n + 4) (n + 4) f₁ (simp (length-append, length-bytesOf, length-repeated)) (omega arith) e₂ in
+    let f₃ = sets-next l p₂ (bytesOf 4 t0) 0 (n + 8) (n + 8) f₂ (simp (length-append, length-bytesOf, length-repeated) (omega arith)) (omega arith) e₃ in
+    let f₄ = sets-next l p₃ (bytesOf 4 t1) 0 (n + 12) (n + 12) f₃ (simp (length-append, length-bytesOf, length-repeated) (omega arith)) (omega arith) e₄ in
     f₄ ∙ sets-whole l (p₃ ++ bytesOf 4 t1) (simp (length-append, length-bytesOf, length-repeated) (omega arith))
 
 pub length-chunkOf : (b : List ℕ) (r0 r1 t0 t1 : ℕ) → length (chunkOf b r0 r1 t0 t1) ≡ length b + 16

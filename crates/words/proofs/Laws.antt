@@ -82,6 +82,16 @@ pub sets-then : (l : List ℕ) (at n e : ℕ) (xs ys : List ℕ) → length xs �
 sets-then l at n e xs ys len eq =
     ap (λ (k : ℕ). sets (sets l at xs) k ys) (sym eq ∙ ap (λ (k : ℕ). at + k) (sym len)) ∙ sets-append l at xs ys
 
+-- `vs` is written behind `p`, which stands from b on
+pub sets-next : (l p vs : List ℕ) (b n at : ℕ) {s t : List ℕ} → s ≡ sets l b p → length p ≡ n → b + n ≡ at → t ≡ sets s at vs → t ≡ sets l b (p ++ vs)
+sets-next l p vs b n at {s} {t} es len e et = rw (et, es) (sets-then l b n at p vs len e)
+
+-- three runs in a row are one run
+pub sets-three : (l p q r : List ℕ) (at i j : ℕ) {a b c : List ℕ} → at + length p ≡ i → i + length q ≡ j
+    → a ≡ sets l at p → b ≡ sets a i q → c ≡ sets b j r → c ≡ sets l at (p ++ q ++ r)
+sets-three l p q r at i j {a} {b} {c} ei ej ea eb ec =
+    sets-next l (p ++ q) r at (length p + length q) j (sets-next l p q at (length p) i ea refl ei eb) (length-append p q) (omega arith) ec
+
 -- one byte more of a run
 pub sets-more : (l : List ℕ) (at : ℕ) (vs : List ℕ) (k : ℕ) → k < length vs → set (sets l at (take k vs)) (at + k) (getD vs k 0) ≡ sets l at (take (k + 1) vs)
 sets-more l at vs k h =

@@ -5,8 +5,7 @@ use native.Mathlib.Omega.{arith}
 use borrow.Author.Needs.{needs}
 use Rattle.heap.specs.Allocate.{grantedAreas}
 use Rattle.area.specs.Areas.{withHead}
-use Rattle.heap.proofs.Takings.{lent-size, lent-lawful, chunk-back}
-use Rattle.area.proofs.Sheets.{chunk-inside, chunk-small}
+use Rattle.area.proofs.Sheets.{chunk-inside, chunk-small, lent-size, lent-lawful, chunk-back}
 use Rattle.tags.proofs.Laws.{length-grantedChunk}
 use Rattle.tags.specs.Chunk.{LawfulGrant, grantedChunk}
 use Rattle.heap.proofs.allocate.commit.Statement.{statement}
@@ -35,7 +34,7 @@ write-granted-requires c κs =
     let s = c .before .before .before .before .before .before .before .before .before .before in
     let k = s .pre .ready in
     let p = s .args .p in
-    (lent-lawful (s .args .heap .now) _ (p .sheet) (p .buffer) (k .opened) (k .buffer), subst (λ (n : ℕ). LawfulGrant n (s .args .grant)) (sym (lent-size (s .args .heap .now) _ (p .sheet) (p .buffer) (k .opened) (k .buffer))) (s .pre .granted))
+    (lent-lawful (s .args .heap .now) (p .sheet) (p .buffer) (k .opened .law) (k .opened .heapLong) (k .buffer), subst (λ (n : ℕ). LawfulGrant n (s .args .grant)) (sym (lent-size (s .args .heap .now) (p .sheet) (p .buffer) (k .opened .law) (k .opened .heapLong) (k .buffer))) (s .pre .granted))
 
 stamp-requires : tie.Need-stamp-requires
 stamp-requires c κs = search needs
@@ -61,7 +60,7 @@ returns c =
     let g = p .sheet in (
       c .before .before .write-u32 .ensures ∙ ap (withHead (s .args .sheet .now)) (c .before .before .before .before .before .before .before .before .before .before .before .before .read .ensures),
       (
-        chunk-back (s .args .heap .now) _ g (p .buffer) (k .opened) (k .buffer) (λ (n : ℕ). grantedChunk n (g .head) (s .args .grant)) (c .before .before .before .before .before .before .before .before .before .before .write-granted .last .0) (λ n. length-grantedChunk n (g .head) (s .args .grant)) (c .before .before .before .before .before .before .before .before .before .before .write-granted .ensures),
+        chunk-back (s .args .heap .now) g (p .buffer) (k .opened .law) (k .opened .heapLong) (k .buffer) (λ (n : ℕ). grantedChunk n (g .head) (s .args .grant)) (c .before .before .before .before .before .before .before .before .before .before .write-granted .last .0) (λ n. length-grantedChunk n (g .head) (s .args .grant)) (c .before .before .before .before .before .before .before .before .before .before .write-granted .ensures),
         c .before .before .before .before .before .before .stamp .ensures,
       ),
     )

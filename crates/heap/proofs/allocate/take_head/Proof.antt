@@ -5,9 +5,9 @@ use native.Mathlib.Omega.{arith}
 use borrow.Author.Needs.{needs}
 use lib.ListN.{length, take, drop}
 use Rattle.heap.specs.Allocate.{takenChunk, takenHead}
-use Rattle.heap.proofs.Takings.{spot-taken, lent-long}
+use Rattle.heap.proofs.Takings.{spot-taken}
 use Rattle.area.proofs.Places.{place-found}
-use Rattle.area.proofs.Sheets.{chunk-inside, chunk-small, record-inside}
+use Rattle.area.proofs.Sheets.{chunk-inside, chunk-small, record-inside, lent-long}
 use Rattle.words.specs.Word.{part}
 use Rattle.heap.proofs.allocate.take_head.Statement.{statement}
 use Rattle.heap.proofs.allocate.take_head.Tie as tie
@@ -62,7 +62,7 @@ part-take-chunk-end c = let s = c .before .before .before .before .before .befor
 
 take-chunk-requires : tie.Need-take-chunk-requires
 take-chunk-requires c κs =
-    let s = c .before .before .before .before .before .before .before .before .before .before .before .before .before .before in (lent-long (s .args .heap .now) (length (s .args .records .now)) (s .args .g) _ (s .pre .0) (found (c .before .before .before .before)), s .pre .0 .law)
+    let s = c .before .before .before .before .before .before .before .before .before .before .before .before .before .before in (lent-long (s .args .heap .now) (s .args .g) _ (s .pre .0 .law) (s .pre .0 .heapLong) (found (c .before .before .before .before)), s .pre .0 .law)
 
 returns : tie.Need-returns
 unfolding takenHead

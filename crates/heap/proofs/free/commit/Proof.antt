@@ -9,8 +9,7 @@ use Rattle.words.specs.Word.{bytesOf}
 use Rattle.area.specs.Record.{recordSize, nextAt}
 use Rattle.heap.specs.Free.{freedAreas}
 use Rattle.area.specs.Areas.{recordAddress, stamped}
-use Rattle.heap.proofs.Takings.{lent-lawful, chunk-back}
-use Rattle.area.proofs.Sheets.{chunk-inside, chunk-small, record-inside, record-word}
+use Rattle.area.proofs.Sheets.{chunk-inside, chunk-small, record-inside, record-word, lent-lawful, chunk-back}
 use Rattle.tags.proofs.Laws.{length-freeChunk}
 use Rattle.tags.specs.Chunk.{freeChunk}
 use Rattle.heap.proofs.free.commit.Statement.{statement}
@@ -41,7 +40,7 @@ part-write-free-end : tie.Need-part-write-free-end
 part-write-free-end c = let s = c .before .before .before .before .before .before .before .before .before in let k = chunk-inside (s .args .p .sheet) (s .pre .ready .opened .law) _ (s .pre .ready .buffer) in let e = s .pre .ready .opened .heapLong in omega arith
 
 write-free-requires : tie.Need-write-free-requires
-write-free-requires c κs = let s = c .before .before .before .before .before .before .before .before .before .before in let k = s .pre .ready in lent-lawful (s .args .heap .now) _ (s .args .p .sheet) (s .args .p .buffer) (k .opened) (k .buffer)
+write-free-requires c κs = let s = c .before .before .before .before .before .before .before .before .before .before in let k = s .pre .ready in lent-lawful (s .args .heap .now) (s .args .p .sheet) (s .args .p .buffer) (k .opened .law) (k .opened .heapLong) (k .buffer)
 
 write-u32-requires : tie.Need-write-u32-requires
 write-u32-requires c κs = let s = c .before .before .before .before .before .before .before .before .before .before .before .before .before .before in let k = record-inside (s .args .p .sheet) (s .pre .ready .opened .law) _ (s .pre .ready .own) in let e = s .pre .ready .opened .recordsLong in omega arith
@@ -71,7 +70,7 @@ returns c =
     let z : p .own * recordSize ≡ p .own * recordSize + nextAt = omega arith in (
       c .before .before .write-u322 .ensures,
       (
-        chunk-back (s .args .heap .now) _ g (p .buffer) (k .opened) (k .buffer) (λ (n : ℕ). freeChunk n (recordAddress g (p .own))) (c .before .before .before .before .before .before .before .before .before .before .before .before .before .before .write-free .last .0) (λ n. length-freeChunk n (recordAddress g (p .own))) (c .before .before .before .before .before .before .before .before .before .before .before .before .before .before .write-free .ensures),
+        chunk-back (s .args .heap .now) g (p .buffer) (k .opened .law) (k .opened .heapLong) (k .buffer) (λ (n : ℕ). freeChunk n (recordAddress g (p .own))) (c .before .before .before .before .before .before .before .before .before .before .before .before .before .before .write-free .last .0) (λ n. length-freeChunk n (recordAddress g (p .own))) (c .before .before .before .before .before .before .before .before .before .before .before .before .before .before .write-free .ensures),
         c .before .before .before .before .before .before .stamp .ensures ∙ ap (λ (x : List ℕ). stamped x (p .own) (s .args .uptime) (s .args .thread)) (c .before .before .before .before .before .before .before .before .before .before .write-u32 .ensures ∙ ap (λ (n : ℕ). sets (s .args .records .now) n (bytesOf 4 (g .head))) z),
       ),
     )

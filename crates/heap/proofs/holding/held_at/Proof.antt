@@ -4,9 +4,8 @@ use Prim.Native.Nat.{ℕ, _+_, _*_, _-_, _<_}
 use native.Mathlib.Omega.{arith}
 use borrow.Author.Needs.{needs}
 use lib.ListN.{length, take, drop}
-use Rattle.area.proofs.Sheets.{chunk-inside, chunk-small}
+use Rattle.area.proofs.Sheets.{chunk-inside, chunk-small, lent-long}
 use Rattle.area.proofs.Places.{place-found}
-use Rattle.heap.proofs.Takings.{lent-long}
 use Rattle.heap.specs.Holding.{heldChunk, heldAt, HeldIf}
 use Rattle.words.specs.Word.{part}
 use Rattle.heap.proofs.holding.held_at.Statement.{statement}
@@ -44,7 +43,7 @@ held-chunk-requires : tie.Need-held-chunk-requires
 held-chunk-requires c κs =
     let p = c .before .before .before .before in
     let s = p .before .before .before .before .before in
-    (lent-long (s .args .heap .now) (length (s .args .records .now)) (s .args .g) _ (s .pre) (found p), (record { law = s .pre .law; heapLong = refl; recordsLong = s .pre .recordsLong }, found p))
+    (lent-long (s .args .heap .now) (s .args .g) _ (s .pre .law) (s .pre .heapLong) (found p), (record { law = s .pre .law; heapLong = refl; recordsLong = s .pre .recordsLong }, found p))
 
 returns : tie.Need-returns
 unfolding heldAt
