@@ -1,6 +1,6 @@
 //! Calls on the dump: on every neighbour of it, and with every small number.
 
-use combgallop::{Answer, Grant};
+use combgallop::Grant;
 use differential::samples::dump;
 use differential::{put_word, Image, Sequence};
 
@@ -67,9 +67,9 @@ fn show(address: u32) -> Call {
     Call::Show { address }
 }
 
-/// A few calls, one after the other, which between them read every byte that a call
-/// can read.
-fn some_of_each(grant: Grant) -> [Call; 7] {
+/// A few calls, one after the other. The allocates take every buffer in turn, the freed
+/// one first, and then there is none.
+fn some_of_each(grant: Grant) -> [Call; 9] {
     [
         show(BUFFER - STEP),
         show(BUFFER),
@@ -78,6 +78,8 @@ fn some_of_each(grant: Grant) -> [Call; 7] {
         free(grant),
         allocate(Grant::Sized(9)),
         allocate(Grant::Whole),
+        allocate(Grant::Sized(SIZE)),
+        allocate(Grant::Sized(1)),
     ]
 }
 
@@ -95,11 +97,10 @@ fn run_all(
     }
 }
 
-/// What one byte of the dump doesn't bring about: its head is four bytes from 0, the
-/// two patterns are far apart, and these arguments are lawful.
-const NOT_NEAR: [Met; 6] = [
+/// What one byte of the dump doesn't bring about: the two patterns are far apart, and
+/// these arguments are lawful.
+const NOT_NEAR: [Met; 5] = [
     Met::Refused("allocate", 6, 0),
-    Met::Refused("allocate", 5, 0),
     Met::Refused("free", 8, 0),
     Met::Refused("free", 9, 0),
     Met::Refused("store", 8, 0),
@@ -221,80 +222,4 @@ fn calls_on_every_small_size_code() {
         Met::Refused("free", 7, 28),
     ];
     counts.finish("calls, every small size code", SEED, &wanted);
-}
-
-const TWO_TO_THE_32: usize = 1 << 32;
-
-/// Lengths whose low 32 bits are lawful. No call reads or writes so far, so the system
-/// never has to provide the bytes.
-#[test]
-fn lengths_past_2_to_the_32() {
-    let mut long = vec![0; TWO_TO_THE_32 + 4096];
-    stores_past_2_to_the_32(&long);
-    areas_past_2_to_the_32(&mut long);
-}
-
-/// The client has 20 bytes.
-fn stores_past_2_to_the_32(long: &[u8]) {
-    let Image {
-        sheet,
-        mut heap,
-        records,
-        ..
-    } = dump();
-    let before = heap.clone();
-    for (offset, length) in [
-        (0, TWO_TO_THE_32),
-        (0, TWO_TO_THE_32 + 20),
-        (1, TWO_TO_THE_32 - 1),
-        (8, TWO_TO_THE_32 - 4),
-        (20, TWO_TO_THE_32),
-        (u32::MAX, TWO_TO_THE_32),
-    ] {
-        let bytes = &long[..length];
-        let answer = combgallop::store_answer(&sheet, &mut heap, &records, BUFFER, offset, bytes);
-        assert_eq!(answer, Answer(10), "store of {length} bytes at {offset}");
-        assert_eq!(heap, before, "store of {length} bytes at {offset}");
-    }
-}
-
-/// Each area in turn starts as the dump's, and is 2^32 bytes longer.
-fn areas_past_2_to_the_32(long: &mut [u8]) {
-    for (area, refusal) in [(0, Answer(1)), (1, Answer(3)), (2, Answer(3))] {
-        let image = dump();
-        let Image {
-            mut sheet,
-            mut heap,
-            mut records,
-            ..
-        } = image.clone();
-        let lengthened = [&sheet, &heap, &records][area].clone();
-        let (start, _) = long.split_at_mut(lengthened.len());
-        start.copy_from_slice(&lengthened);
-        let longer = &mut long[..TWO_TO_THE_32 + lengthened.len()];
-        let answers = match area {
-            0 => every_answer(longer, &mut heap, &mut records),
-            1 => every_answer(&mut sheet, longer, &mut records),
-            _ => every_answer(&mut sheet, &mut heap, longer),
-        };
-        assert_eq!(answers, [refusal; 5], "area {area}");
-        let before = [image.sheet, image.heap, image.records];
-        assert_eq!([sheet, heap, records], before, "area {area}");
-        assert!(long.starts_with(&lengthened), "area {area}");
-        long[..lengthened.len()].fill(0);
-    }
-}
-
-/// Lay out, allocate, free, store and show, each of which the dump would accept.
-fn every_answer(sheet: &mut [u8], heap: &mut [u8], records: &mut [u8]) -> [Answer; 5] {
-    let (whole, grant) = (Grant::Whole, Grant::Sized(20));
-    let shape = dump().shape;
-    let (heap_base, record_base) = (shape.heap_base, shape.record_base);
-    [
-        combgallop::lay_out_answer(1, heap_base, record_base, SIZE, 3, sheet, heap, records),
-        combgallop::allocate_answer(sheet, heap, records, whole, 1, 2),
-        combgallop::free_answer(sheet, heap, records, BUFFER, grant, 1, 2),
-        combgallop::store_answer(sheet, heap, records, BUFFER, 0, &[1]),
-        combgallop::show_answer(sheet, heap, records, BUFFER),
-    ]
 }

@@ -8,6 +8,7 @@ mod hurt;
 mod lay_out;
 mod ledger;
 mod lists;
+mod long;
 mod twin;
 
 use crate::counts::Met;
