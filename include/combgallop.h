@@ -1,9 +1,10 @@
 /*
- * The verified reader of one cache's heap image.
+ * The verified reader of one cache's heap image, and its calls: lay out, allocate,
+ * free, store and show.
  *
- * An image is four areas of bytes: sheet, heap, records and log. Any bytes of any
- * length may be lent; an image that breaks the rules is refused, with a number that
- * says which rule. Each area is a pointer and then a length, counted in elements. No
+ * An image is four areas of bytes: sheet, heap, records and log. The calls need no log
+ * and write none. Any bytes of any length may be lent; an image that breaks the rules
+ * is refused, with a number that says which rule. Each area is a pointer and then a length, counted in elements. No
  * pointer may be null, even with length 0. What a call writes to must be lent to that
  * call alone and overlap no other area. No call keeps what it was lent.
  *
@@ -20,6 +21,7 @@
 #ifndef COMBGALLOP_H
 #define COMBGALLOP_H
 
+#include <stdbool.h>
 #include <stddef.h>
 #include <stdint.h>
 
@@ -88,6 +90,82 @@ uint64_t cg_report(const uint8_t *sheet, size_t sheet_length,
                    const uint8_t *records, size_t records_length,
                    const uint8_t *log, size_t log_length,
                    uint8_t *output, size_t output_length);
+
+/*
+ * Writes a sheet, a heap and records: `count` free buffers of `size` bytes, buffer i
+ * paired with record i, and the chain through all of them in that order.
+ *
+ * Value: 0.
+ * Refusals: 1 when sheet_length is not 48; 2 when an argument breaks a limit: size is
+ * a multiple of 8 from 8 to 4,096, count is 1 to 512, count times (size + 16) is at most
+ * 65,536, both bases are non-zero multiples of 8, neither area passes 2^32, and they
+ * share no address; 3 when heap_length is not count times (size + 16), or
+ * records_length not count times 96.
+ */
+uint64_t cg_lay_out(uint32_t cache, uint32_t heap_base, uint32_t record_base,
+                    uint32_t size, uint32_t count,
+                    uint8_t *sheet, size_t sheet_length,
+                    uint8_t *heap, size_t heap_length,
+                    uint8_t *records, size_t records_length);
+
+/*
+ * Grants the buffer of the chain's first record: all of it when `whole` is true, and
+ * `size` is not read then; else its first `size` bytes. Stamps the record with uptime
+ * and thread.
+ *
+ * Value: the buffer's address.
+ * Refusals: 1, 2, 3; 6 when a size is asked for that is 0 or above the buffer size; 5
+ * when the chain's head is 0; 7 when the head is no record (detail 29), it names no
+ * buffer (20), the buffer's tag names another record or has neither pattern (21) or the
+ * allocated one (24), or its fill (25) or redzone (26) is hurt.
+ */
+uint64_t cg_allocate(uint8_t *sheet, size_t sheet_length,
+                     uint8_t *heap, size_t heap_length,
+                     uint8_t *records, size_t records_length,
+                     bool whole, uint32_t size, uint32_t uptime, uint32_t thread);
+
+/*
+ * Takes back the buffer at an address, which was granted whole or with `size` bytes;
+ * `size` is not read when `whole` is true. Its record becomes the chain's first and is
+ * stamped with uptime and thread.
+ *
+ * Value: 0.
+ * Refusals: 1, 2, 3; 4 when no buffer starts at the address; 7 with detail 21 when the
+ * buffer's tag names no record or one that names another buffer, or has neither pattern;
+ * 8 when the buffer is free; 7 when its size code is none (27), or its guard byte or
+ * redzone is hurt (28); 9 when it was granted otherwise.
+ */
+uint64_t cg_free(uint8_t *sheet, size_t sheet_length,
+                 uint8_t *heap, size_t heap_length,
+                 uint8_t *records, size_t records_length,
+                 uint32_t address, bool whole, uint32_t size,
+                 uint32_t uptime, uint32_t thread);
+
+/*
+ * Writes bytes at an offset in the client's bytes of the buffer at an address. No bytes
+ * may be stored at any offset up to the count of the client's bytes.
+ *
+ * Value: 0.
+ * Refusals: 1, 2, 3; 4, 7 and 8 as cg_free gives them, in that order; 10 when offset
+ * plus bytes_length passes the client's bytes.
+ */
+uint64_t cg_store(const uint8_t *sheet, size_t sheet_length,
+                  uint8_t *heap, size_t heap_length,
+                  const uint8_t *records, size_t records_length,
+                  uint32_t address, uint32_t offset,
+                  const uint8_t *bytes, size_t bytes_length);
+
+/*
+ * Counts the client's bytes of the buffer at an address. They stand in the heap area
+ * from the buffer's start on, which is at `address` minus the heap's base.
+ *
+ * Value: how many bytes were granted, the buffer size when granted whole.
+ * Refusals: 1, 2, 3; 4, 7 and 8 as cg_free gives them, in that order.
+ */
+uint64_t cg_show(const uint8_t *sheet, size_t sheet_length,
+                 const uint8_t *heap, size_t heap_length,
+                 const uint8_t *records, size_t records_length,
+                 uint32_t address);
 
 #ifdef __cplusplus
 }

@@ -23,6 +23,11 @@ impl Answer {
             }),
         }
     }
+
+    /// Why the call was refused, for one whose value says nothing.
+    pub(crate) fn done(self) -> Result<(), Refusal> {
+        self.value().map(|_| ())
+    }
 }
 
 #[cfg(test)]

@@ -1,15 +1,27 @@
-//! The verified reader of one cache's heap image.
+//! The verified reader of one cache's heap image, and its calls.
 //!
 //! Every decision is made in the verified library. Here are its C functions, called
 //! with slices, and their answers taken apart. No call keeps what it was lent, and
 //! whatever the bytes are, each call returns.
 
+mod allocate;
 mod answer;
+mod free;
+mod grant;
 mod inspect;
 mod latest;
+mod lay_out;
 mod report;
+mod show;
+mod store;
 
+pub use allocate::{allocate, allocate_answer};
 pub use answer::{Answer, Refusal};
+pub use free::{free, free_answer};
+pub use grant::Grant;
 pub use inspect::{inspect, inspect_answer};
 pub use latest::{latest, latest_answer, Latest};
+pub use lay_out::{lay_out, lay_out_answer};
 pub use report::{report, report_answer};
+pub use show::{show, show_answer};
+pub use store::{store, store_answer};

@@ -55,12 +55,22 @@ impl Shape {
         self.record_base + (record * RECORD_SIZE) as u32
     }
 
+    /// Which buffer starts at an address, if one does.
+    pub fn buffer_at(&self, address: u32) -> Option<usize> {
+        self.index_of(address, self.heap_base, self.chunk_size())
+    }
+
     /// Which record starts at an address, if one does.
     pub fn record_at(&self, address: u32) -> Option<usize> {
-        let distance = address.checked_sub(self.record_base)? as usize;
-        let record = distance / RECORD_SIZE;
-        let is_start = distance.is_multiple_of(RECORD_SIZE) && record < self.count;
-        is_start.then_some(record)
+        self.index_of(address, self.record_base, RECORD_SIZE)
+    }
+
+    /// Which part starts at an address, where each is `step` bytes from `base` on.
+    fn index_of(&self, address: u32, base: u32, step: usize) -> Option<usize> {
+        let distance = address.checked_sub(base)? as usize;
+        let index = distance / step;
+        let is_start = distance.is_multiple_of(step) && index < self.count;
+        is_start.then_some(index)
     }
 }
 

@@ -13,4 +13,4 @@ mod sound;
 pub use case::Case;
 pub use image::{put_word, word, Image, Shape};
 pub use sequence::Sequence;
-pub use sound::sound_image;
+pub use sound::{move_areas, some_shape, sound_image};

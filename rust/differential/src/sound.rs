@@ -33,15 +33,21 @@ pub fn sound_image(sequence: &mut Sequence) -> Image {
     image
 }
 
-fn some_shape(sequence: &mut Sequence) -> Shape {
+/// The numbers of a lawful lay out.
+pub fn some_shape(sequence: &mut Sequence) -> Shape {
     let (size, count) = some_sizes(sequence);
-    let mut shape = Shape {
+    let shape = Shape {
         cache: sequence.word(),
         heap_base: 0,
         record_base: 0,
         size,
         count,
     };
+    move_areas(shape, sequence)
+}
+
+/// The same sizes with other lawful bases.
+pub fn move_areas(mut shape: Shape, sequence: &mut Sequence) -> Shape {
     let heap_length = shape.heap_length() as u64;
     let record_length = shape.record_length() as u64;
     loop {

@@ -1,6 +1,7 @@
 /* Reads the dump's image and writes what each declared function answers and fills. */
 #include <inttypes.h>
 #include <stdio.h>
+#include <string.h>
 
 #include "combgallop.h"
 
@@ -10,6 +11,79 @@ static void print_answer(const char *name, uint64_t answer)
 {
     printf("%s %u %u %" PRIu32 "\n", name, (unsigned)cg_refusal(answer),
            (unsigned)cg_detail(answer), cg_value(answer));
+}
+
+/* A fresh image of three buffers of 8 bytes. */
+enum { FRESH_HEAP = 72, BASE = 0x1000, STEP = 24 };
+
+static uint8_t fresh_sheet[SHEET];
+static uint8_t fresh_heap[FRESH_HEAP];
+static uint8_t fresh_records[RECORDS];
+
+static void lay_out(size_t sheet_length, uint32_t size)
+{
+    print_answer("lay out", cg_lay_out(0x11223344, BASE, 0x2000, size, 3, fresh_sheet,
+                                       sheet_length, fresh_heap, FRESH_HEAP, fresh_records,
+                                       RECORDS));
+}
+
+static void allocate(bool whole, uint32_t size)
+{
+    print_answer("allocate", cg_allocate(fresh_sheet, SHEET, fresh_heap, FRESH_HEAP,
+                                         fresh_records, RECORDS, whole, size, 0x11, 0x22));
+}
+
+static void take_back(uint32_t address, bool whole, uint32_t size)
+{
+    print_answer("free", cg_free(fresh_sheet, SHEET, fresh_heap, FRESH_HEAP, fresh_records,
+                                 RECORDS, address, whole, size, 0x33, 0x44));
+}
+
+static void store(uint32_t address, uint32_t offset, const char *text)
+{
+    print_answer("store", cg_store(fresh_sheet, SHEET, fresh_heap, FRESH_HEAP, fresh_records,
+                                   RECORDS, address, offset, (const uint8_t *)text,
+                                   strlen(text)));
+}
+
+static void show(uint32_t address)
+{
+    uint64_t answer = cg_show(fresh_sheet, SHEET, fresh_heap, FRESH_HEAP, fresh_records, RECORDS,
+                              address);
+    uint32_t at;
+
+    print_answer("show", answer);
+    for (at = 0; at < cg_value(answer); at++)
+        printf(" %02x", (unsigned)fresh_heap[address - BASE + at]);
+    printf("\n");
+}
+
+/* Every call, accepted and refused. Where `whole` is true, any size will do. */
+static void make_calls(void)
+{
+    lay_out(SHEET - 1, 8);
+    lay_out(SHEET, 9);
+    lay_out(SHEET, 16);
+    lay_out(SHEET, 8);
+    allocate(false, 9);
+    allocate(false, 5);
+    allocate(true, 9);
+    allocate(true, 0);
+    allocate(false, 8);
+    store(BASE, 1, "abcd");
+    store(BASE, 2, "abcd");
+    show(BASE);
+    show(BASE + STEP);
+    show(BASE + 1);
+    take_back(BASE, false, 4);
+    take_back(BASE, true, 5);
+    take_back(BASE, false, 5);
+    take_back(BASE + STEP, true, 5);
+    take_back(BASE + STEP, true, 0);
+    store(BASE, 0, "");
+    allocate(false, 8);
+    fresh_heap[2 * STEP + 8] = 0;
+    show(BASE + 2 * STEP);
 }
 
 int main(void)
@@ -36,5 +110,6 @@ int main(void)
     print_answer("report", cg_report(image, SHEET, heap, HEAP, records, RECORDS, row, 0, output,
                                      OUTPUT));
     fputs((const char *)output, stdout);
+    make_calls();
     return 0;
 }

@@ -7,7 +7,11 @@ use std::process::Command;
 
 /// The dump's findings; room for too few; the latest transactions of its buffers, of
 /// which the log has one row for the record of buffer 1, and of a buffer too many; room
-/// for too little; the report.
+/// for too little; the report. Then the calls on a fresh image: three refused lay outs
+/// and one accepted; the buffers at 4096, 4120 and 4144 granted with 5 bytes and whole,
+/// after a size too large and before one too many; what was stored in the first and
+/// stands in the second; two wrong grants, and the first two given back, the second by
+/// a size that is not read and then again; the second granted anew; the third hurt.
 const EXPECTED: &str = "\
 inspect 0 0 3
 row 0\nrow 0\nrow 0
@@ -27,6 +31,28 @@ heap report 1
 2 free
 chain 2 end
 faults 0
+lay out 1 0 0
+lay out 2 0 0
+lay out 3 0 0
+lay out 0 0 0
+allocate 6 0 0
+allocate 0 0 4096
+allocate 0 0 4120
+allocate 0 0 4144
+allocate 5 0 0
+store 0 0 0
+store 10 0 0
+show 0 0 5\n ba 61 62 63 64
+show 0 0 8\n ba dd ca fe ba dd ca fe
+show 4 0 0\n
+free 9 0 0
+free 9 0 0
+free 0 0 0
+free 0 0 0
+free 8 0 0
+store 8 0 0
+allocate 0 0 4120
+show 7 28 0\n
 ";
 
 #[test]

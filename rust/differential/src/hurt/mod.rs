@@ -5,6 +5,7 @@ mod areas;
 mod bytes;
 mod chain;
 mod chunk;
+mod head;
 mod pairing;
 mod sheet;
 mod times;
@@ -61,6 +62,28 @@ pub const HURTS: [Hurt; 42] = [
     ("bytes flipped", bytes::flip),
     ("bytes of meaning misplaced", bytes::misplace_words),
     ("random or cut", bytes::replace),
+];
+
+/// The ways that an allocate meets at the chain's first record and its buffer, some of
+/// them two at once. They do nothing where no record or no buffer is first.
+pub const HEAD_HURTS: [Hurt; 11] = [
+    ("head: no record", head::leave_records),
+    ("head: names no buffer", head::name_nothing),
+    ("head: names another buffer", head::name_other),
+    ("head: other record with its pattern", head::tag_with_other),
+    ("head: neither pattern", head::break_tag),
+    ("head: allocated pattern", head::mark_allocated),
+    (
+        "head: allocated pattern of another record",
+        head::mark_others_allocated,
+    ),
+    ("head: fill", head::change_fill),
+    ("head: redzone", head::change_redzone),
+    ("head: fill and redzone", head::change_fill_and_redzone),
+    (
+        "head: allocated pattern and fill",
+        head::mark_allocated_and_change_fill,
+    ),
 ];
 
 /// Hurts an image in no way, one way or a few, and answers their names.

@@ -3,6 +3,7 @@
 use std::collections::BTreeMap;
 use std::fmt::{Display, Formatter, Result};
 
+use differential::Image;
 use reference::Ending;
 
 /// A thing that a run can meet.
@@ -18,6 +19,12 @@ pub enum Met {
     /// What the latest transaction was chosen from, or is.
     Latest(&'static str),
     Hurt(&'static str),
+    /// A call that was accepted, by its name.
+    Accepted(&'static str),
+    /// A call that was refused, with the refusal's number and detail.
+    Refused(&'static str, u8, u8),
+    /// What a list of calls came to, or how arguments were drawn.
+    Drawn(&'static str),
 }
 
 /// Every verdict there is.
@@ -34,6 +41,15 @@ pub const VERDICTS: [Met; 12] = [
     Met::Verdict(26),
     Met::Verdict(27),
     Met::Verdict(28),
+];
+
+/// The ends of what is lawful.
+pub const EXTREMES: [Met; 5] = [
+    Met::Extreme("buffer size", 8),
+    Met::Extreme("buffer size", 4096),
+    Met::Extreme("count", 1),
+    Met::Extreme("count", 512),
+    Met::Extreme("heap area", 65_536),
 ];
 
 /// Every way a chain stops.
@@ -59,6 +75,12 @@ impl Display for Met {
             Met::Extreme(what, number) => write!(out, "{what} {number}"),
             Met::Latest(what) => write!(out, "{what}"),
             Met::Hurt(name) => write!(out, "hurt: {name}"),
+            Met::Accepted(call) => write!(out, "{call} accepted"),
+            Met::Refused(call, number, 0) => write!(out, "{call} refused {number}"),
+            Met::Refused(call, number, detail) => {
+                write!(out, "{call} refused {number}/{detail}")
+            }
+            Met::Drawn(what) => write!(out, "drawn: {what}"),
         }
     }
 }
@@ -73,6 +95,18 @@ impl Counts {
 
     pub fn note_refusal(&mut self, refusal: reference::Refusal) {
         self.note(Met::Refusal(refusal.number, refusal.detail));
+    }
+
+    /// Notes the numbers of an image that are at an end of what is lawful.
+    pub fn note_extremes(&mut self, image: &Image) {
+        let numbers = [
+            Met::Extreme("buffer size", image.shape.size),
+            Met::Extreme("count", image.shape.count),
+            Met::Extreme("heap area", image.heap.len()),
+        ];
+        for number in numbers.iter().filter(|number| EXTREMES.contains(number)) {
+            self.note(*number);
+        }
     }
 
     /// Prints the counts, and fails where a thing that can be met was not.

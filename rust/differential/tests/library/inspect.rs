@@ -8,7 +8,7 @@ use differential::samples::dump;
 use differential::{put_word, sound_image, Case, Image, Sequence};
 use reference::{chain, Finding, Refusal};
 
-use crate::counts::{Counts, Met, ENDINGS, VERDICTS};
+use crate::counts::{Counts, Met, ENDINGS, EXTREMES, VERDICTS};
 use crate::lent::{expected_answer, expected_refusal, Guarded, Lent};
 
 const CASES: u64 = 60_000;
@@ -20,15 +20,6 @@ const REFUSALS: [Met; 4] = [
     Met::Refusal(2, 0),
     Met::Refusal(3, 0),
     Met::Refusal(11, 0),
-];
-
-/// The ends of what is lawful.
-const EXTREMES: [Met; 5] = [
-    Met::Extreme("buffer size", 8),
-    Met::Extreme("buffer size", 4096),
-    Met::Extreme("count", 1),
-    Met::Extreme("count", 512),
-    Met::Extreme("heap area", 65_536),
 ];
 
 /// Inspects an image with room for so many numbers, by both, and answers what the
@@ -57,13 +48,13 @@ fn compare(
     let count = expected.map(|count| count as u32);
     assert_eq!(answer, expected_answer(count), "room {room}, {story}");
     assert!(rows.holds(&expected_rows), "rows, room {room}, {story}");
-    lent.assert_as_before(image, story);
+    lent.assert_holds(image, story);
 
     let mut rows = Guarded::new(&pattern, sequence);
     let answer = inspect(sheet, heap, records, rows.part_mut());
     assert_eq!(answer, expected.map_err(expected_refusal), "{story}");
     assert!(rows.holds(&expected_rows), "rows, room {room}, {story}");
-    lent.assert_as_before(image, story);
+    lent.assert_holds(image, story);
     expected.map(|_| findings)
 }
 
@@ -89,14 +80,7 @@ fn note(counts: &mut Counts, image: &Image, found: Result<Vec<Finding>, Refusal>
     let walked = chain(&image.sheet, &image.heap, &image.records);
     let ending = walked.expect("an image inspected has a chain").ending;
     counts.note(Met::chain(ending));
-    let numbers = [
-        Met::Extreme("buffer size", image.shape.size),
-        Met::Extreme("count", image.shape.count),
-        Met::Extreme("heap area", image.heap.len()),
-    ];
-    for number in numbers.iter().filter(|number| EXTREMES.contains(number)) {
-        counts.note(*number);
-    }
+    counts.note_extremes(image);
 }
 
 #[test]

@@ -58,11 +58,11 @@ fn compare(
     let answer = latest_answer(sheet, heap, records, log, index, now);
     let expected_answer = expected_answer(expected_value);
     assert_eq!(answer, expected_answer, "index {index}, now {now}, {story}");
-    lent.assert_as_before(image, story);
+    lent.assert_holds(image, story);
 
     let found = latest(sheet, heap, records, log, index, now);
     assert_eq!(found, expected_found, "index {index}, now {now}, {story}");
-    lent.assert_as_before(image, story);
+    lent.assert_holds(image, story);
     expected
 }
 

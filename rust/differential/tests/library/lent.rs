@@ -68,13 +68,20 @@ impl Lent {
         }
     }
 
-    /// No call that reads changes a byte of these.
-    pub fn assert_as_before(&self, image: &Image, story: &dyn Display) {
-        assert!(self.sheet.holds(&image.sheet), "sheet changed: {story}");
-        assert!(self.heap.holds(&image.heap), "heap changed: {story}");
-        let records_stay = self.records.holds(&image.records);
-        assert!(records_stay, "records changed: {story}");
-        assert!(self.log.holds(&image.log), "log changed: {story}");
+    /// The sheet, the heap and the records, for a call that may write to them.
+    pub fn areas(&mut self) -> (&mut [u8], &mut [u8], &mut [u8]) {
+        let (sheet, heap) = (self.sheet.part_mut(), self.heap.part_mut());
+        (sheet, heap, self.records.part_mut())
+    }
+
+    /// Every byte is as in the image. A call that reads has changed none, and one that
+    /// writes has written what the reference wrote.
+    pub fn assert_holds(&self, image: &Image, story: &dyn Display) {
+        assert!(self.sheet.holds(&image.sheet), "sheet differs: {story}");
+        assert!(self.heap.holds(&image.heap), "heap differs: {story}");
+        let records_agree = self.records.holds(&image.records);
+        assert!(records_agree, "records differ: {story}");
+        assert!(self.log.holds(&image.log), "log differs: {story}");
     }
 }
 

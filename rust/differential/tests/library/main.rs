@@ -1,6 +1,7 @@
 //! The verified library and the reference answer alike, and leave every lent byte
 //! alike.
 
+mod calls;
 mod counts;
 mod inspect;
 mod latest;

@@ -42,13 +42,13 @@ fn compare(
     let length = expected.map(|length| length as u32);
     assert_eq!(answer, expected_answer(length), "room {room}, {story}");
     assert!(output.holds(&expected_output), "output, {room}, {story}");
-    lent.assert_as_before(image, story);
+    lent.assert_holds(image, story);
 
     let mut output = Guarded::new(&pattern, sequence);
     let answer = report(sheet, heap, records, log, output.part_mut());
     assert_eq!(answer, expected.map_err(expected_refusal), "{story}");
     assert!(output.holds(&expected_output), "output, {room}, {story}");
-    lent.assert_as_before(image, story);
+    lent.assert_holds(image, story);
     let text = String::from_utf8_lossy(&expected_output[..expected.unwrap_or(0)]).into_owned();
     expected.map(|_| text)
 }

@@ -1,0 +1,60 @@
+//! The grant of a buffer.
+
+use crate::{Answer, Grant, Refusal};
+
+extern "C" {
+    fn cg_allocate(
+        sheet: *mut u8,
+        sheet_length: usize,
+        heap: *mut u8,
+        heap_length: usize,
+        records: *mut u8,
+        records_length: usize,
+        whole: bool,
+        size: u32,
+        uptime: u32,
+        thread: u32,
+    ) -> u64;
+}
+
+/// Grants the buffer of the chain's first record and answers its address. A refusal
+/// changes nothing.
+pub fn allocate(
+    sheet: &mut [u8],
+    heap: &mut [u8],
+    records: &mut [u8],
+    grant: Grant,
+    uptime: u32,
+    thread: u32,
+) -> Result<u32, Refusal> {
+    allocate_answer(sheet, heap, records, grant, uptime, thread).value()
+}
+
+/// As `allocate`, with the answer as the library gives it.
+pub fn allocate_answer(
+    sheet: &mut [u8],
+    heap: &mut [u8],
+    records: &mut [u8],
+    grant: Grant,
+    uptime: u32,
+    thread: u32,
+) -> Answer {
+    let (whole, size) = grant.numbers();
+    // SAFETY: each pointer comes with the length of its own slice, and nothing else
+    // can reach the three areas before the call returns.
+    let answer = unsafe {
+        cg_allocate(
+            sheet.as_mut_ptr(),
+            sheet.len(),
+            heap.as_mut_ptr(),
+            heap.len(),
+            records.as_mut_ptr(),
+            records.len(),
+            whole,
+            size,
+            uptime,
+            thread,
+        )
+    };
+    Answer(answer)
+}

@@ -1,0 +1,64 @@
+//! The return of a buffer.
+
+use crate::{Answer, Grant, Refusal};
+
+extern "C" {
+    fn cg_free(
+        sheet: *mut u8,
+        sheet_length: usize,
+        heap: *mut u8,
+        heap_length: usize,
+        records: *mut u8,
+        records_length: usize,
+        address: u32,
+        whole: bool,
+        size: u32,
+        uptime: u32,
+        thread: u32,
+    ) -> u64;
+}
+
+/// Takes back the buffer at an address, with the grant it was handed out with; its
+/// record becomes the chain's first. A refusal changes nothing.
+pub fn free(
+    sheet: &mut [u8],
+    heap: &mut [u8],
+    records: &mut [u8],
+    address: u32,
+    grant: Grant,
+    uptime: u32,
+    thread: u32,
+) -> Result<(), Refusal> {
+    free_answer(sheet, heap, records, address, grant, uptime, thread).done()
+}
+
+/// As `free`, with the answer as the library gives it.
+pub fn free_answer(
+    sheet: &mut [u8],
+    heap: &mut [u8],
+    records: &mut [u8],
+    address: u32,
+    grant: Grant,
+    uptime: u32,
+    thread: u32,
+) -> Answer {
+    let (whole, size) = grant.numbers();
+    // SAFETY: each pointer comes with the length of its own slice, and nothing else
+    // can reach the three areas before the call returns.
+    let answer = unsafe {
+        cg_free(
+            sheet.as_mut_ptr(),
+            sheet.len(),
+            heap.as_mut_ptr(),
+            heap.len(),
+            records.as_mut_ptr(),
+            records.len(),
+            address,
+            whole,
+            size,
+            uptime,
+            thread,
+        )
+    };
+    Answer(answer)
+}

@@ -1,0 +1,51 @@
+//! What a client has written.
+
+use crate::{Answer, Refusal};
+
+extern "C" {
+    fn cg_show(
+        sheet: *const u8,
+        sheet_length: usize,
+        heap: *const u8,
+        heap_length: usize,
+        records: *const u8,
+        records_length: usize,
+        address: u32,
+    ) -> u64;
+}
+
+/// Hands back the client's bytes of the buffer at an address, as a part of the heap.
+pub fn show<'a>(
+    sheet: &[u8],
+    heap: &'a [u8],
+    records: &[u8],
+    address: u32,
+) -> Result<&'a [u8], Refusal> {
+    let length = show_answer(sheet, heap, records, address).value()?;
+    // The library has found a sheet, and a buffer at the address.
+    let start = (address - heap_base(sheet)) as usize;
+    Ok(&heap[start..start + length as usize])
+}
+
+/// The body of a sheet's second field.
+fn heap_base(sheet: &[u8]) -> u32 {
+    u32::from_be_bytes([sheet[10], sheet[11], sheet[12], sheet[13]])
+}
+
+/// The count of the client's bytes, which start where the buffer does; the answer is as
+/// the library gives it.
+pub fn show_answer(sheet: &[u8], heap: &[u8], records: &[u8], address: u32) -> Answer {
+    // SAFETY: each pointer comes with the length of its own slice.
+    let answer = unsafe {
+        cg_show(
+            sheet.as_ptr(),
+            sheet.len(),
+            heap.as_ptr(),
+            heap.len(),
+            records.as_ptr(),
+            records.len(),
+            address,
+        )
+    };
+    Answer(answer)
+}

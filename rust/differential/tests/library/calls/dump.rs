@@ -1,0 +1,225 @@
+//! Calls on the dump: on every neighbour of it, and with every small number.
+
+use combgallop::Grant;
+use differential::samples::dump;
+use differential::{put_word, Image, Sequence};
+
+use super::call::Call;
+use super::twin::Twin;
+use super::{ALLOCATE, FREE, SHOW, STORE};
+use crate::counts::{Counts, Met};
+
+const SEED: u64 = 0x95c1_7b3e;
+
+const REDZONE: u32 = 0xfeed_face;
+const SIZE: u32 = 24;
+
+/// Buffer 1, the one that is allocated.
+const BUFFER: u32 = 0x70a9_ae00;
+const STEP: u32 = 40;
+
+/// The dump with its allocated buffer granted in some way.
+fn dump_granted(grant: Grant) -> Image {
+    let mut image = dump();
+    let (r0, r1) = (image.r0(1), image.r1(1));
+    put_word(&mut image.heap, r0, REDZONE);
+    put_word(&mut image.heap, r1, REDZONE);
+    if let Grant::Sized(size) = grant {
+        let guard = image.buffer(1) + size as usize;
+        image.heap[guard] = 0xbb;
+        put_word(&mut image.heap, r1, 251 * size + 1);
+    }
+    image
+}
+
+/// Whole, and every size there is and a few that there are not.
+fn every_grant() -> Vec<Grant> {
+    let sizes = (0..SIZE + 3).map(Grant::Sized);
+    sizes.chain([Grant::Whole]).collect()
+}
+
+fn allocate(grant: Grant) -> Call {
+    Call::Allocate {
+        grant,
+        uptime: 0x1122_3344,
+        thread: 0x5566_7788,
+    }
+}
+
+fn free(grant: Grant) -> Call {
+    Call::Free {
+        address: BUFFER,
+        grant,
+        uptime: 0x99aa_bbcc,
+        thread: 0xddee_ff00,
+    }
+}
+
+fn store(offset: u32, length: usize) -> Call {
+    Call::Store {
+        address: BUFFER,
+        offset,
+        bytes: (0x30..).take(length).collect(),
+    }
+}
+
+fn show(address: u32) -> Call {
+    Call::Show { address }
+}
+
+/// A few calls, one after the other. The allocates take every buffer in turn, the freed
+/// one first, and then there is none.
+fn some_of_each(grant: Grant) -> [Call; 9] {
+    [
+        show(BUFFER - STEP),
+        show(BUFFER),
+        show(BUFFER + STEP),
+        store(2, 3),
+        free(grant),
+        allocate(Grant::Sized(9)),
+        allocate(Grant::Whole),
+        allocate(Grant::Sized(SIZE)),
+        allocate(Grant::Sized(1)),
+    ]
+}
+
+fn run_all(
+    image: &Image,
+    calls: &[Call],
+    origin: &str,
+    counts: &mut Counts,
+    sequence: &mut Sequence,
+) {
+    let mut twin = Twin::new(image.clone(), &origin, sequence);
+    for call in calls {
+        // Any answer will do that both give.
+        let _ = twin.run(call, counts, sequence);
+    }
+}
+
+/// What one byte of the dump doesn't bring about: the two patterns are far apart, and
+/// these arguments are lawful.
+const NOT_NEAR: [Met; 5] = [
+    Met::Refused("allocate", 6, 0),
+    Met::Refused("free", 8, 0),
+    Met::Refused("free", 9, 0),
+    Met::Refused("store", 8, 0),
+    Met::Refused("store", 10, 0),
+];
+
+/// Each byte of the sheet, the heap and the records, changed to each other value.
+#[test]
+fn calls_on_neighbours_of_the_dump() {
+    let mut sequence = Sequence::new(SEED);
+    let mut counts = Counts::default();
+    for grant in [Grant::Sized(20), Grant::Whole, Grant::Sized(SIZE)] {
+        let mut image = dump_granted(grant);
+        let calls = some_of_each(grant);
+        let lengths = [image.sheet.len(), image.heap.len(), image.records.len()];
+        for (area, length) in lengths.into_iter().enumerate() {
+            for at in 0..length {
+                let stood = *byte(&mut image, area, at);
+                for value in 0..=255 {
+                    *byte(&mut image, area, at) = value;
+                    let origin = format!("dump, {grant:?}, area {area}, {value:#x} at {at}");
+                    run_all(&image, &calls, &origin, &mut counts, &mut sequence);
+                }
+                *byte(&mut image, area, at) = stood;
+            }
+        }
+    }
+    let all = [&ALLOCATE[..], &FREE, &STORE, &SHOW].concat();
+    let wanted: Vec<Met> = all
+        .into_iter()
+        .filter(|met| !NOT_NEAR.contains(met))
+        .collect();
+    counts.finish("calls, neighbours of the dump", SEED, &wanted);
+}
+
+/// A byte of the sheet, the heap or the records, areas 0, 1 and 2.
+fn byte(image: &mut Image, area: usize, at: usize) -> &mut u8 {
+    match area {
+        0 => &mut image.sheet[at],
+        1 => &mut image.heap[at],
+        _ => &mut image.records[at],
+    }
+}
+
+/// Every grant asked for, and every grant given back for it.
+#[test]
+fn every_pair_of_grants() {
+    let mut sequence = Sequence::new(SEED);
+    let mut counts = Counts::default();
+    for granted in every_grant() {
+        for freed in every_grant() {
+            let as_granted = Grant::Sized(20);
+            let calls = [
+                free(as_granted),
+                allocate(granted),
+                show(BUFFER),
+                free(freed),
+            ];
+            let origin = format!("dump, {granted:?}, then {freed:?}");
+            run_all(&dump(), &calls, &origin, &mut counts, &mut sequence);
+        }
+    }
+    let wanted = [
+        Met::Refused("allocate", 6, 0),
+        Met::Refused("free", 8, 0),
+        Met::Refused("free", 9, 0),
+    ];
+    counts.finish("calls, every pair of grants", SEED, &wanted);
+}
+
+/// For every grant, every store of few bytes at every small offset and near 2^32.
+#[test]
+fn every_small_store() {
+    let mut sequence = Sequence::new(SEED);
+    let mut counts = Counts::default();
+    let offsets: Vec<u32> = (0..STEP + 2).chain(u32::MAX - STEP..=u32::MAX).collect();
+    for size in 0..=SIZE {
+        let grant = match size {
+            0 => Grant::Whole,
+            size => Grant::Sized(size),
+        };
+        let image = dump_granted(grant);
+        for &offset in &offsets {
+            let calls: Vec<Call> = (0..=STEP as usize + 1)
+                .map(|length| store(offset, length))
+                .collect();
+            let origin = format!("dump, {grant:?}");
+            run_all(&image, &calls, &origin, &mut counts, &mut sequence);
+        }
+    }
+    let wanted = [Met::Accepted("store"), Met::Refused("store", 10, 0)];
+    counts.finish("calls, every small store", SEED, &wanted);
+}
+
+/// Every small R1 of the allocated buffer, past the code of its buffer size, with R0 of
+/// either grant and with the guard byte everywhere or nowhere.
+#[test]
+fn calls_on_every_small_size_code() {
+    let mut sequence = Sequence::new(SEED);
+    let mut counts = Counts::default();
+    let mut image = dump();
+    let (r0_at, r1_at) = (image.r0(1), image.r1(1));
+    for fill in [0xbb, 0xba] {
+        image.heap[40..64].fill(fill);
+        for r0 in [0xfeed_face, 0xbbed_face] {
+            put_word(&mut image.heap, r0_at, r0);
+            for r1 in 0..7_000 {
+                put_word(&mut image.heap, r1_at, r1);
+                let grant = Grant::Sized(r1 / 251);
+                let calls = [show(BUFFER), store(0, 1), free(grant)];
+                let origin = format!("dump, R0 {r0:#x}, R1 {r1:#x}, {fill:#x} before them");
+                run_all(&image, &calls, &origin, &mut counts, &mut sequence);
+            }
+        }
+    }
+    let wanted = [
+        Met::Accepted("free"),
+        Met::Refused("free", 7, 27),
+        Met::Refused("free", 7, 28),
+    ];
+    counts.finish("calls, every small size code", SEED, &wanted);
+}

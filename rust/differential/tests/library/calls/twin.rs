@@ -1,0 +1,123 @@
+//! One image twice, for the reference and for the library, and what was done to it.
+
+use std::fmt::{Display, Formatter, Result as Written};
+
+use combgallop::Refusal;
+use differential::hurt::Hurt;
+use differential::{Image, Sequence};
+
+use super::call::Call;
+use crate::counts::{Counts, Met};
+use crate::lent::{expected_answer, expected_refusal, Guarded, Lent};
+
+enum Step {
+    Call(Call),
+    Hurt(&'static str),
+}
+
+/// Where an image comes from, and all that was done to it since.
+pub struct Story<'a> {
+    origin: &'a dyn Display,
+    steps: Vec<Step>,
+}
+
+impl Display for Story<'_> {
+    fn fmt(&self, out: &mut Formatter) -> Written {
+        writeln!(out, "{}", self.origin)?;
+        for (number, step) in self.steps.iter().enumerate() {
+            match step {
+                Step::Call(call) => writeln!(out, "{number}: {call:x?}")?,
+                Step::Hurt(name) => writeln!(out, "{number}: hurt, {name}")?,
+            }
+        }
+        Ok(())
+    }
+}
+
+pub struct Twin<'a> {
+    /// What the reference works on.
+    pub image: Image,
+    /// What the library is lent: the same bytes, before and after each call.
+    pub lent: Lent,
+    pub story: Story<'a>,
+}
+
+impl<'a> Twin<'a> {
+    pub fn new(image: Image, origin: &'a dyn Display, sequence: &mut Sequence) -> Twin<'a> {
+        Twin {
+            lent: Lent::new(&image, sequence),
+            image,
+            story: Story {
+                origin,
+                steps: Vec::new(),
+            },
+        }
+    }
+
+    /// Damage from outside.
+    pub fn hurt(&mut self, (name, way): Hurt, sequence: &mut Sequence) {
+        way(&mut self.image, sequence);
+        self.lent = Lent::new(&self.image, sequence);
+        self.story.steps.push(Step::Hurt(name));
+    }
+
+    /// Makes a call by both, compares what they answer and every byte, and answers what
+    /// the library did.
+    pub fn run(
+        &mut self,
+        call: &Call,
+        counts: &mut Counts,
+        sequence: &mut Sequence,
+    ) -> Result<u32, Refusal> {
+        self.story.steps.push(Step::Call(call.clone()));
+        let expected = call.by_reference(&mut self.image);
+        let bytes = Guarded::new(call.bytes(), sequence);
+        let outcome = if sequence.once_in(4) {
+            call.outcome(&mut self.lent, bytes.part())
+        } else {
+            let answer = call.answer(&mut self.lent, bytes.part());
+            let expected = expected_answer(expected);
+            assert_eq!(answer, expected, "answer to the last of {}", self.story);
+            answer.value()
+        };
+        let expected = expected.map_err(expected_refusal);
+        assert_eq!(outcome, expected, "outcome of the last of {}", self.story);
+        assert!(bytes.holds(call.bytes()), "bytes differ: {}", self.story);
+        self.lent.assert_holds(&self.image, &self.story);
+        match *call {
+            Call::LayOut(numbers) if outcome.is_ok() => self.image.shape = numbers.into(),
+            Call::Show { address } => self.compare_parts(address),
+            _ => {}
+        }
+        counts.note(match outcome {
+            Ok(_) => Met::Accepted(call.name()),
+            Err(refusal) => Met::Refused(call.name(), refusal.number, refusal.detail),
+        });
+        outcome
+    }
+
+    /// Both show the same part of the heap, or none.
+    fn compare_parts(&self, address: u32) {
+        let Image {
+            sheet,
+            heap,
+            records,
+            ..
+        } = &self.image;
+        let expected = reference::show(sheet, heap, records, address);
+        let expected = expected.map(|part| place(heap, part));
+        let expected = expected.map_err(expected_refusal);
+        let (sheet, heap, records) = (&self.lent.sheet, &self.lent.heap, &self.lent.records);
+        let heap = heap.part();
+        let shown = combgallop::show(sheet.part(), heap, records.part(), address);
+        let shown = shown.map(|part| place(heap, part));
+        assert_eq!(shown, expected, "part shown: {}", self.story);
+        self.lent.assert_holds(&self.image, &self.story);
+    }
+}
+
+/// Where a part of an area starts, and its length.
+fn place(area: &[u8], part: &[u8]) -> (usize, usize) {
+    let start = part.as_ptr() as usize - area.as_ptr() as usize;
+    (start, part.len())
+}
