@@ -1,6 +1,7 @@
 // The calls that a client makes.
 ghost use mathlib.Core.Path.{_≡_};
 ghost use Rattle.area.specs.Areas.{areas};
+ghost use Rattle.layout.specs.Layout.{layOutOf};
 ghost use Rattle.heap.specs.Allocate.{allocateOf};
 ghost use Rattle.heap.specs.Free.{freeOf};
 ghost use Rattle.heap.specs.Store.{storeOf};
@@ -22,6 +23,39 @@ fn grant(whole: bool, size: u32) -> Grant
         return Grant::Whole;
     }
     Grant::Sized(size)
+}
+
+// Lays out an image in which every buffer is free.
+#[no_mangle]
+pub extern "C" fn cg_lay_out(
+    cache: u32,
+    heap_base: u32,
+    record_base: u32,
+    size: u32,
+    count: u32,
+    sheet: &mut [u8],
+    heap: &mut [u8],
+    records: &mut [u8],
+) -> u64
+    ensures answer { λ r. ⌜ r
+        ≡ outcomeWord (layOutOf (areas (now (sheet .entry)) (now (heap .entry)) (now (records .entry))) cache «heap_base» «record_base» size count .answer) ⌝ }
+    ensures sheet { λ _. ⌜ now (sheet .exit)
+        ≡ layOutOf (areas (now (sheet .entry)) (now (heap .entry)) (now (records .entry))) cache «heap_base» «record_base» size count .areas .sheet ⌝ }
+    ensures heap { λ _. ⌜ now (heap .exit)
+        ≡ layOutOf (areas (now (sheet .entry)) (now (heap .entry)) (now (records .entry))) cache «heap_base» «record_base» size count .areas .heap ⌝ }
+    ensures records { λ _. ⌜ now (records .exit)
+        ≡ layOutOf (areas (now (sheet .entry)) (now (heap .entry)) (now (records .entry))) cache «heap_base» «record_base» size count .areas .records ⌝ }
+{
+    answer::outcome(layout::lay_out(
+        cache,
+        heap_base,
+        record_base,
+        size,
+        count,
+        sheet,
+        heap,
+        records,
+    ))
 }
 
 // Grants a buffer. The value is its address.
