@@ -43,15 +43,18 @@ headerOf = ascii "heap report 1\n"
 unfoldable pub hasOffset : ℕ → Bool
 hasOffset number = eqb number 25 || eqb number 26 || eqb number 28
 
--- "Buffer lines are `I free`, `I whole`, `I allocated S`, `I fault V` or, for 25, 26 and 28, `I fault V OFFSET`": the line of buffer i, whose verdict has this
--- number and this value, its size or its offset. Every verdict but 0, 1 and 2 is a fault: none has a number from 3 to 19.
+-- "`I fault V` or, for 25, 26 and 28, `I fault V OFFSET`"
+unfoldable pub faultLineOf : ℕ → ℕ → ℕ → List ℕ
+faultLineOf i number value =
+    pick (hasOffset number) (fieldOf i " fault " ++ fieldOf number " " ++ fieldOf value "\n") (fieldOf i " fault " ++ fieldOf number "\n")
+
+-- "Buffer lines are `I free`, `I whole`, `I allocated S`", or that of a fault: the line of buffer i, whose verdict has this number and this value, its size or
+-- its offset. Every verdict but 0, 1 and 2 is a fault: none has a number from 3 to 19.
 unfoldable pub lineOf : ℕ → ℕ → ℕ → List ℕ
 lineOf i number value =
     pick (eqb number 0) (fieldOf i " free\n")
     (pick (eqb number 1) (fieldOf i " whole\n")
-    (pick (eqb number 2) (fieldOf i " allocated " ++ fieldOf value "\n")
-    (pick (hasOffset number) (fieldOf i " fault " ++ fieldOf number " " ++ fieldOf value "\n")
-    (fieldOf i " fault " ++ fieldOf number "\n"))))
+    (pick (eqb number 2) (fieldOf i " allocated " ++ fieldOf value "\n") (faultLineOf i number value)))
 
 -- the lines of buffers 0 to n - 1, "one line per item", where `number` and `value` tell each buffer's verdict
 unfoldable pub linesOf : (ℕ → ℕ) → (ℕ → ℕ) → ℕ → List ℕ

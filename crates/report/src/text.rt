@@ -4,7 +4,7 @@ ghost use mathlib.Core.Path.{_≡_};
 ghost use mathlib.Core.List.{_++_};
 ghost use Prim.Native.Nat.{_+_, _*_, _^_, _≤_, _<_};
 ghost use lib.ListN.{length};
-ghost use Rattle.report.specs.Text.{decimalOf, headerOf, hasOffset, lineOf, chainLineOf, faultOf, faultsOf, rowNumber, rowValue, textOf, Wrote, writtenOf, outputOf, WrittenIf, refusalLineOf};
+ghost use Rattle.report.specs.Text.{decimalOf, headerOf, hasOffset, faultLineOf, lineOf, chainLineOf, faultOf, faultsOf, rowNumber, rowValue, textOf, Wrote, writtenOf, outputOf, WrittenIf, refusalLineOf};
 ghost use Rattle.area.specs.Refusal.{refusalNumber};
 use area::refusal;
 use area::refusal::Refusal;
@@ -72,6 +72,20 @@ fn has_offset(number: u32) -> bool
     number == 25 || number == 26 || number == 28
 }
 
+// Puts the line of buffer i, which has a fault, by the number and the value of its verdict.
+fn put_fault(output: &mut [u8], at: usize, i: usize, number: u32, value: u32) -> usize
+    requires { ⌜ at < 2 ^ 61 ⌝ }
+    ensures put { λ r. ⌜ Wrote (now (output .entry)) at (faultLineOf i number value) (now (output .exit)) r ⌝ }
+    ensures short { λ r. ⌜ r ≤ at + 120 ⌝ }
+{
+    let a = put_field(output, at, i as u64, b" fault ");
+    if has_offset(number) {
+        let b = put_field(output, a, number as u64, b" ");
+        return put_field(output, b, value as u64, b"\n");
+    }
+    put_field(output, a, number as u64, b"\n")
+}
+
 // Puts the line of buffer i, by the number and the value of its verdict.
 fn put_line(output: &mut [u8], at: usize, i: usize, number: u32, value: u32) -> usize
     requires { ⌜ at < 2 ^ 61 ⌝ }
@@ -88,12 +102,7 @@ fn put_line(output: &mut [u8], at: usize, i: usize, number: u32, value: u32) -> 
         let a = put_field(output, at, i as u64, b" allocated ");
         return put_field(output, a, value as u64, b"\n");
     }
-    let a = put_field(output, at, i as u64, b" fault ");
-    if has_offset(number) {
-        let b = put_field(output, a, number as u64, b" ");
-        return put_field(output, b, value as u64, b"\n");
-    }
-    put_field(output, a, number as u64, b"\n")
+    put_fault(output, at, i, number, value)
 }
 
 // Puts the chain line.

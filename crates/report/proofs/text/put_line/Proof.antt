@@ -1,5 +1,4 @@
 -- The tests stand in the order of the definition, and the pieces of each line one after the other. Assumes nothing.
-use mathlib.Core.Path.{sym, _∙_}
 use native.Mathlib.Omega.{arith}
 use borrow.Author.Tests.{eq-eqb, ne-eqb}
 use borrow.Author.Needs.{needs}
@@ -63,26 +62,8 @@ returns-3 c =
     simp (ne-eqb _ _ (i .before .before .if1 .left), ne-eqb _ _ (i .before .if2 .left), eq-eqb _ _ (i .if3 .taken))
     (then (v .0) (w .0), omega (arith, v .1, w .1))
 
-slice-aggregate-put-field-5 : tie.Need-slice-aggregate-put-field-5
-slice-aggregate-put-field-5 c = search needs
-
-put-field-requires-5 : tie.Need-put-field-requires-5
-put-field-requires-5 c κs = search needs
-
-has-offset-requires : tie.Need-has-offset-requires
-has-offset-requires c κs = search needs
-
-slice-aggregate-put-field-6 : tie.Need-slice-aggregate-put-field-6
-slice-aggregate-put-field-6 c = search needs
-
-put-field-requires-6 : tie.Need-put-field-requires-6
-put-field-requires-6 c κs = search needs
-
-slice-aggregate-put-field-7 : tie.Need-slice-aggregate-put-field-7
-slice-aggregate-put-field-7 c = search needs
-
-put-field-requires-7 : tie.Need-put-field-requires-7
-put-field-requires-7 c κs = search needs
+put-fault-requires : tie.Need-put-fault-requires
+put-fault-requires c κs = search needs
 
 same-length-4 : tie.Need-same-length-4
 same-length-4 c = search needs
@@ -90,34 +71,9 @@ same-length-4 c = search needs
 returns-4 : tie.Need-returns-4
 unfolding lineOf
 returns-4 c =
-    let i = c .before .before .before .before .before .before .before .before .before .before .before .before .before .before .before .before .before in
-    let f = c .before .before .before .before .before .before .before .before .before .before in
-    let o = sym (f .before .has-offset .ensures) ∙ f .if4 .taken in
-    let u = c .before .before .before .before .before .before .before .before .before .before .before .before .before .before .put-field5 .ensures in
-    let v = c .before .before .before .before .before .before .before .put-field6 .ensures in
-    let w = c .before .before .put-field7 .ensures in
-    simp (ne-eqb _ _ (i .before .before .if1 .left), ne-eqb _ _ (i .before .if2 .left), ne-eqb _ _ (i .if3 .left), o)
-    (then (then (u .0) (v .0)) (w .0), omega (arith, u .1, v .1, w .1))
-
-slice-aggregate-put-field-8 : tie.Need-slice-aggregate-put-field-8
-slice-aggregate-put-field-8 c = search needs
-
-put-field-requires-8 : tie.Need-put-field-requires-8
-put-field-requires-8 c κs = search needs
-
-same-length-5 : tie.Need-same-length-5
-same-length-5 c = search needs
-
-returns-5 : tie.Need-returns-5
-unfolding lineOf
-returns-5 c =
-    let i = c .before .before .before .before .before .before .before .before .before .before .before .before in
-    let f = c .before .before .before .before .before in
-    let o = sym (f .before .has-offset .ensures) ∙ f .if4 .left in
-    let v = c .before .before .before .before .before .before .before .before .before .put-field5 .ensures in
-    let w = c .before .before .put-field8 .ensures in
-    simp (ne-eqb _ _ (i .before .before .if1 .left), ne-eqb _ _ (i .before .if2 .left), ne-eqb _ _ (i .if3 .left), o)
-    (then (v .0) (w .0), omega (arith, v .1, w .1))
+    let i = c .before .before .before .before in
+    let w = c .before .before .put-fault .ensures in
+    simp (ne-eqb _ _ (i .before .before .if1 .left), ne-eqb _ _ (i .before .if2 .left), ne-eqb _ _ (i .if3 .left)) (w .0, w .1)
 
 pub put-line-spec : {M : Type 1} → statement M
 put-line-spec =
@@ -137,16 +93,6 @@ put-line-spec =
     put-field-requires-4
     same-length-3
     returns-3
-    slice-aggregate-put-field-5
-    put-field-requires-5
-    has-offset-requires
-    slice-aggregate-put-field-6
-    put-field-requires-6
-    slice-aggregate-put-field-7
-    put-field-requires-7
+    put-fault-requires
     same-length-4
-    returns-4
-    slice-aggregate-put-field-8
-    put-field-requires-8
-    same-length-5
-    returns-5)
+    returns-4)
