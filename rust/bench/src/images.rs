@@ -1,0 +1,121 @@
+//! The images that are timed.
+
+use differential::hurt::{Hurt, HURTS};
+use differential::{Image, Sequence, Shape};
+use reference::{allocate, free, Grant};
+
+/// The sizes and counts of the largest images: the longest buffers, the most buffers,
+/// and the most buffers with the largest heap area there may be, 65,536 bytes.
+pub const LARGEST: [(usize, usize); 3] = [(4096, 15), (24, 512), (112, 512)];
+
+/// Any number does; the hurts follow from it.
+const SEED: u64 = 1;
+
+/// The hurts that leave the image's areas and chain to be read, so that every buffer
+/// has to be judged.
+const HURT_KINDS: [&str; 4] = ["pairing", "tag", "free", "allocated"];
+
+const UPTIME: u32 = 1000;
+const THREAD: u32 = 7;
+
+pub fn shape(size: usize, count: usize) -> Shape {
+    Shape {
+        cache: 0x7003_9928,
+        heap_base: 0x70a9_a000,
+        record_base: 0x70ae_3000,
+        size,
+        count,
+    }
+}
+
+/// Every buffer is free, and the chain goes through the records in order.
+pub fn all_free(size: usize, count: usize) -> Image {
+    Image::laid_out(shape(size, count), [0; 5])
+}
+
+/// Every second buffer is out.
+pub fn half_allocated(size: usize, count: usize) -> Image {
+    let mut image = all_allocated(size, count);
+    for buffer in (0..count).step_by(2) {
+        take_back(&mut image, buffer);
+    }
+    image
+}
+
+/// Every buffer is free, and the chain starts at the last record and goes back.
+pub fn chained_back(size: usize, count: usize) -> Image {
+    let order: Vec<usize> = (0..count).rev().collect();
+    chained(size, count, &order)
+}
+
+/// Every buffer is free, and each link of the chain goes about half the records away.
+pub fn chained_far(size: usize, count: usize) -> Image {
+    let order: Vec<usize> = (0..count).map(|i| i * (count / 2 + 1) % count).collect();
+    chained(size, count, &order)
+}
+
+/// Every buffer is free, and the chain goes through the records in this order, which
+/// is the order of their buffers' frees from the last to the first.
+fn chained(size: usize, count: usize, order: &[usize]) -> Image {
+    let mut image = all_allocated(size, count);
+    for &buffer in order.iter().rev() {
+        take_back(&mut image, buffer);
+    }
+    image
+}
+
+/// Half of the buffers are out, and there are as many hurts as buffers.
+pub fn hurt(size: usize, count: usize) -> Image {
+    let mut image = half_allocated(size, count);
+    let mut sequence = Sequence::new(SEED);
+    let ways: Vec<Hurt> = HURTS
+        .into_iter()
+        .filter(|(name, _)| HURT_KINDS.iter().any(|kind| name.starts_with(kind)))
+        .collect();
+    for _ in 0..count {
+        let (_, way) = sequence.pick(&ways);
+        way(&mut image, &mut sequence);
+    }
+    image
+}
+
+/// Every buffer is out, whole and with several sizes in turn.
+fn all_allocated(size: usize, count: usize) -> Image {
+    let mut image = all_free(size, count);
+    for buffer in 0..count {
+        allocate(
+            &mut image.sheet,
+            &mut image.heap,
+            &mut image.records,
+            grant_of(size, buffer),
+            UPTIME,
+            THREAD,
+        )
+        .expect("a free buffer");
+    }
+    image
+}
+
+fn take_back(image: &mut Image, buffer: usize) {
+    free(
+        &mut image.sheet,
+        &mut image.heap,
+        &mut image.records,
+        image.shape.buffer_address(buffer),
+        grant_of(image.shape.size, buffer),
+        UPTIME,
+        THREAD,
+    )
+    .expect("a buffer that is out");
+}
+
+/// What a buffer is granted as.
+fn grant_of(size: usize, buffer: usize) -> Grant {
+    let size = size as u32;
+    match buffer % 4 {
+        0 => Grant::Whole,
+        1 => Grant::Sized(size),
+        2 => Grant::Sized(1),
+        _ => Grant::Sized(size / 2),
+    }
+}

@@ -1,0 +1,201 @@
+//! Inspect, report and latest transaction.
+
+use std::hint::black_box;
+
+use differential::Image;
+use reference::Finding;
+
+use crate::images::{all_free, chained_back, chained_far, half_allocated, hurt, LARGEST};
+use crate::limits::{compare, filled, read, scan};
+use crate::requirement::Requirement;
+use crate::table::{print_sides, SIDES_HEAD};
+use crate::timing::{race, Times};
+
+/// Room for any report: 512 lines of at most 18 bytes each, as `511 allocated 112` is,
+/// and three short ones.
+const MOST_TEXT: usize = 16_384;
+
+const HEAD: &str = "\
+| image | faults | call | Rattle | second program | ratio | middle half of ratios | memcmp \
+| plain read | byte scan | Rattle to byte scan |
+|---|--:|---|--:|--:|--:|--:|--:|--:|--:|--:|";
+
+/// A way to make an image, and whether every buffer of it is free, so that all of its
+/// buffers' bytes are compared with the free fill.
+type Kind = (&'static str, fn(usize, usize) -> Image, bool);
+
+const KINDS: [Kind; 5] = [
+    ("all free", all_free, true),
+    ("half allocated", half_allocated, false),
+    ("hurt", hurt, false),
+    ("all free, chain reversed", chained_back, true),
+    ("all free, chain in long jumps", chained_far, true),
+];
+
+/// Times inspect and report on the largest images, beside what reading them takes.
+pub fn time_reader() -> [Requirement; 4] {
+    let mut requirements = [
+        Requirement::new("inspect: no slower than the second program", 1.05),
+        Requirement::new("report: no slower than the second program", 1.05),
+        Requirement::new("inspect of free buffers: to the byte scan", 2.0),
+        Requirement::new("report on free buffers: to the byte scan", 2.0),
+    ];
+    println!("{HEAD}");
+    for (size, count) in LARGEST {
+        for (kind, make, is_free) in KINDS {
+            let case = format!("{size} x {count}, {kind}");
+            time_image(&case, &make(size, count), is_free, &mut requirements);
+        }
+    }
+    requirements
+}
+
+fn time_image(case: &str, image: &Image, is_free: bool, requirements: &mut [Requirement; 4]) {
+    let faults = faults_found(case, image);
+    let bytes = [&image.heap[..], &image.records].concat();
+    let copy = bytes.clone();
+    let fill = filled(image.heap.len());
+    let mut rows = vec![0; 3 * image.shape.count];
+    let mut findings = vec![Finding::default(); image.shape.count];
+    let mut text = vec![0; MOST_TEXT];
+    let mut second_text = vec![0; MOST_TEXT];
+    let [inspect, second_inspect, report, second_report, memcmp, plain, scanned] = race([
+        Box::new(|| inspect_by_library(image, &mut rows)),
+        Box::new(|| inspect_by_second(image, &mut findings)),
+        Box::new(|| report_by_library(image, &mut text)),
+        Box::new(|| report_by_second(image, &mut second_text)),
+        Box::new(|| _ = black_box(compare(black_box(&bytes), black_box(&copy)))),
+        Box::new(|| _ = black_box(read(black_box(&bytes)))),
+        Box::new(|| _ = black_box(scan(black_box(&fill)))),
+    ]);
+    let limits = [&memcmp, &plain, &scanned];
+    let row = format!("{case} | {faults}");
+    print_row(&row, "inspect", &inspect, &second_inspect, limits);
+    print_row(&row, "report", &report, &second_report, limits);
+
+    let [inspect_limit, report_limit, inspect_scan, report_scan] = requirements;
+    inspect_limit.add(case, inspect.ratio(&second_inspect));
+    report_limit.add(case, report.ratio(&second_report));
+    if is_free {
+        inspect_scan.add(case, inspect.ratio(&scanned));
+        report_scan.add(case, report.ratio(&scanned));
+    }
+}
+
+fn print_row(row: &str, call: &str, rattle: &Times, second: &Times, limits: [&Times; 3]) {
+    let (low, high) = rattle.spread(second);
+    let [memcmp, plain, scanned] = limits;
+    println!(
+        "| {row} | {call} | {:.0} | {:.0} | {:.2} | {low:.2} to {high:.2} \
+         | {:.0} | {:.0} | {:.0} | {:.2} |",
+        rattle.median(),
+        second.median(),
+        rattle.ratio(second),
+        memcmp.median(),
+        plain.median(),
+        scanned.median(),
+        rattle.ratio(scanned),
+    );
+}
+
+/// How many faults both sides find. They find the same, so that the same work is timed.
+fn faults_found(case: &str, image: &Image) -> usize {
+    let count = image.shape.count;
+    let mut rows = vec![0; 3 * count];
+    let mut findings = vec![Finding::default(); count];
+    inspect_by_library(image, &mut rows);
+    inspect_by_second(image, &mut findings);
+    let second_rows: Vec<u32> = findings
+        .iter()
+        .flat_map(|f| [f.index, f.verdict.number(), f.verdict.value()])
+        .collect();
+    assert_eq!(rows, second_rows, "{case}");
+
+    let mut text = vec![0; MOST_TEXT];
+    let mut second_text = vec![0; MOST_TEXT];
+    report_by_library(image, &mut text);
+    report_by_second(image, &mut second_text);
+    assert_eq!(text, second_text, "{case}");
+
+    let verdicts = findings.iter().map(|finding| finding.verdict.number());
+    verdicts.filter(|number| *number >= 20).count()
+}
+
+pub fn inspect_by_library(image: &Image, rows: &mut [u32]) {
+    let answer = combgallop::inspect(&image.sheet, &image.heap, &image.records, rows);
+    black_box(answer).expect("a lawful image");
+}
+
+pub fn inspect_by_second(image: &Image, rows: &mut [Finding]) {
+    let answer = reference::inspect(&image.sheet, &image.heap, &image.records, rows);
+    black_box(answer).expect("a lawful image");
+}
+
+fn report_by_library(image: &Image, output: &mut [u8]) {
+    let Image {
+        sheet,
+        heap,
+        records,
+        log,
+        ..
+    } = image;
+    let answer = combgallop::report(sheet, heap, records, log, output);
+    black_box(answer).expect("a lawful image");
+}
+
+fn report_by_second(image: &Image, output: &mut [u8]) {
+    let Image {
+        sheet,
+        heap,
+        records,
+        log,
+        ..
+    } = image;
+    let answer = reference::report(sheet, heap, records, log, output);
+    black_box(answer).expect("a lawful image");
+}
+
+/// The most rows a log has.
+const MOST_ROWS: u32 = 1024;
+
+/// Times the latest transaction of the last buffer, with the longest log.
+pub fn time_latest() {
+    println!("{SIDES_HEAD}");
+    let mut image = all_free(112, 512);
+    let buffer = image.shape.count - 1;
+    let own_record = image.shape.record_address(buffer);
+    let other_record = image.shape.record_address(0);
+    for (case, named) in [
+        ("each row younger than the one before", own_record),
+        ("no row of the buffer's", other_record),
+    ] {
+        image.log = (1..=MOST_ROWS).flat_map(|t| row(named, t)).collect();
+        let case = format!("latest, 112 x 512, {MOST_ROWS} rows, {case}");
+        time_log(&case, &image, buffer as u32);
+    }
+}
+
+/// A row of the log: record address, uptime, thread, kind.
+fn row(record: u32, uptime: u32) -> Vec<u8> {
+    let words = [record, uptime, 7, 1];
+    words.iter().flat_map(|word| word.to_be_bytes()).collect()
+}
+
+fn time_log(case: &str, image: &Image, buffer: u32) {
+    let Image {
+        sheet,
+        heap,
+        records,
+        log,
+        ..
+    } = image;
+    let by_library = || combgallop::latest(sheet, heap, records, log, buffer, MOST_ROWS);
+    let by_second = || reference::latest(sheet, heap, records, log, buffer, MOST_ROWS);
+    let found = format!("{:?}", by_library());
+    assert_eq!(found, format!("{:?}", by_second()), "{case}");
+    let [rattle, second] = race([
+        Box::new(|| _ = black_box(by_library())),
+        Box::new(|| _ = black_box(by_second())),
+    ]);
+    print_sides(case, &rattle, &second);
+}
