@@ -1,3 +1,4 @@
 pub mod Places
 pub mod Sheets
 mod Records
+mod Windows

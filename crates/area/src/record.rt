@@ -5,6 +5,8 @@ ghost use Prim.Native.Nat.{_+_, _*_, _≤_};
 ghost use lib.ListN.{length};
 ghost use Rattle.area.specs.Record.{recordSize, recordWord};
 ghost use Rattle.area.specs.Areas.{stamped};
+use crate::window;
+use crate::window::Word;
 use words::word;
 
 pub const SIZE: usize = 96;
@@ -19,13 +21,19 @@ pub const STAMP_LOW: usize = 20;
 
 pub const THREAD: usize = 24;
 
-// The word at an offset of record j.
-pub fn read(records: &[u8], j: usize, offset: usize) -> u32
+// The word at an offset of record j, read at its address: the records stand from `base` on. A record lies whole in its area,
+// so that its words are words.
+pub fn read(records: &[u8], base: u32, j: usize, offset: usize) -> u32
     requires { ⌜ j * recordSize + recordSize ≤ length (now records) ⌝ }
+    requires { ⌜ base + j * recordSize + recordSize ≤ 4294967296 ⌝ }
     requires { ⌜ offset + 4 ≤ recordSize ⌝ }
     ensures { λ r. ⌜ r ≡ recordWord (now (records .entry)) j offset ⌝ }
 {
-    word::read_u32(records, j * SIZE + offset)
+    let w = window::read_word(records, base, base + (j * SIZE + offset) as u32);
+    match w {
+        Word::At(v) => v,
+        Word::NoWord => 0,
+    }
 }
 
 // Writes the stamp, whose high half is 0, and the thread of record j.

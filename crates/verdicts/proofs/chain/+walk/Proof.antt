@@ -138,7 +138,7 @@ walk-walk-requires t c κs =
     let s = f .before .before .before .before .before .before .before in
     let m = s .args .marks .now in
     let h = fewer t f in
-    (omega arith, (s .pre .1 .0, (s .pre .1 .1 .0, (length-set m i 1 ∙ s .pre .1 .1 .1 .0, omega arith))))
+    (omega arith, (s .pre .1 .0, (s .pre .1 .1 .0, (s .pre .1 .1 .1 .0, (length-set m i 1 ∙ s .pre .1 .1 .1 .1 .0, omega arith)))))
 
 walk-returns-3 : (t : ℕ) → walk-lts.Need-returns-3 (callees t) (walk-at t) walk.Post
 walk-returns-3 t c =
