@@ -1,4 +1,4 @@
 pub mod Places
 pub mod Sheets
-mod Records
+pub mod Records
 mod Windows

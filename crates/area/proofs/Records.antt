@@ -1,13 +1,21 @@
--- What a call writes for a record. Assumes nothing.
+-- A record's words, by its index and by its address, and what a call writes for a record. Assumes nothing.
 use mathlib.Core.Path.{_≡_, ap, _∙_}
 use mathlib.Core.List.{List, _++_}
-use Prim.Native.Nat.{ℕ, _+_, _*_}
+use Prim.Native.Nat.{ℕ, _+_, _-_, _*_}
 use native.Mathlib.Omega.{arith}
 use lib.Seq.{sets}
-use Rattle.words.specs.Word.{bytesOf}
+use Rattle.words.specs.Word.{bytesOf, numberAt}
 use Rattle.words.proofs.Laws.{length-bytesOf, sets-then}
 use Rattle.area.specs.Areas.{stamped}
-use Rattle.area.specs.Record.{recordSize, stampHighAt, stampLowAt, threadAt}
+use Rattle.area.specs.Place.{placeAddress}
+use Rattle.area.specs.Record.{recordSize, recordWord, wordOfRecordAt, stampHighAt, stampLowAt, threadAt}
+
+-- the record at the address of record j is record j
+pub record-at : (l : List ℕ) (base address j offset : ℕ) → address ≡ placeAddress base recordSize j → wordOfRecordAt l base address offset ≡ recordWord l j offset
+unfolding wordOfRecordAt recordWord
+record-at l base address j offset e =
+    let o : address - base + offset ≡ j * recordSize + offset = omega arith in
+    ap (numberAt 4 l) o
 
 -- the stamp and the thread of record j: three words in a row
 pub stamped-run : (l a b c : List ℕ) (j uptime thread : ℕ)

@@ -3,7 +3,7 @@
 ghost use mathlib.Core.Path.{_≡_};
 ghost use Prim.Native.Nat.{_+_, _*_, _≤_};
 ghost use lib.ListN.{length};
-ghost use Rattle.area.specs.Record.{recordSize, recordWord};
+ghost use Rattle.area.specs.Record.{recordSize, recordWord, wordOfRecordAt};
 ghost use Rattle.area.specs.Areas.{stamped};
 use crate::window;
 use crate::window::Word;
@@ -21,19 +21,30 @@ pub const STAMP_LOW: usize = 20;
 
 pub const THREAD: usize = 24;
 
-// The word at an offset of record j, read at its address: the records stand from `base` on. A record lies whole in its area,
-// so that its words are words.
+// The word at an offset of the record at an address: the records stand from `base` on. A record lies whole in its area, so
+// that each of its words is one.
+pub fn read_at(records: &[u8], base: u32, address: u32, offset: usize) -> u32
+    requires { ⌜ base ≤ address ⌝ }
+    requires { ⌜ address + recordSize ≤ base + length (now records) ⌝ }
+    requires { ⌜ address + recordSize ≤ 4294967296 ⌝ }
+    requires { ⌜ offset + 4 ≤ recordSize ⌝ }
+    ensures { λ r. ⌜ r ≡ wordOfRecordAt (now (records .entry)) base address offset ⌝ }
+{
+    let w = window::read_word(records, base, address + offset as u32);
+    match w {
+        Word::At(v) => v,
+        Word::NoWord => 0,
+    }
+}
+
+// The word at an offset of record j.
 pub fn read(records: &[u8], base: u32, j: usize, offset: usize) -> u32
     requires { ⌜ j * recordSize + recordSize ≤ length (now records) ⌝ }
     requires { ⌜ base + j * recordSize + recordSize ≤ 4294967296 ⌝ }
     requires { ⌜ offset + 4 ≤ recordSize ⌝ }
     ensures { λ r. ⌜ r ≡ recordWord (now (records .entry)) j offset ⌝ }
 {
-    let w = window::read_word(records, base, base + (j * SIZE + offset) as u32);
-    match w {
-        Word::At(v) => v,
-        Word::NoWord => 0,
-    }
+    read_at(records, base, base + (j * SIZE) as u32, offset)
 }
 
 // Writes the stamp, whose high half is 0, and the thread of record j.
