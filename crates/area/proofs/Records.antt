@@ -8,13 +8,13 @@ use Rattle.words.specs.Word.{bytesOf, numberAt}
 use Rattle.words.proofs.Laws.{length-bytesOf, sets-then}
 use Rattle.area.specs.Areas.{stamped}
 use Rattle.area.specs.Place.{placeAddress}
-use Rattle.area.specs.Record.{recordSize, recordWord, wordOfRecordAt, stampHighAt, stampLowAt, threadAt}
+use Rattle.area.specs.Record.{recordSize, recordWord, stampHighAt, stampLowAt, threadAt}
 
--- the record at the address of record j is record j
-pub record-at : (l : List ℕ) (base address j offset : ℕ) → address ≡ placeAddress base recordSize j → wordOfRecordAt l base address offset ≡ recordWord l j offset
-unfolding wordOfRecordAt recordWord
+-- the word that stands `offset` bytes behind the address of record j is the record's word at that offset
+pub record-at : (l : List ℕ) (base address j offset : ℕ) → address ≡ placeAddress base recordSize j + offset → numberAt 4 l (address - base) ≡ recordWord l j offset
+unfolding recordWord
 record-at l base address j offset e =
-    let o : address - base + offset ≡ j * recordSize + offset = omega arith in
+    let o : address - base ≡ j * recordSize + offset = omega arith in
     ap (numberAt 4 l) o
 
 -- the stamp and the thread of record j: three words in a row

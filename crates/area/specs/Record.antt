@@ -1,6 +1,6 @@
 -- The words of a record: "n records of 96 bytes .. : next at 0, buffer address 4, .. timestamp 16 (eight bytes), thread 24". Assumes nothing.
 use mathlib.Core.List.{List}
-use Prim.Native.Nat.{ℕ, _+_, _-_, _*_}
+use Prim.Native.Nat.{ℕ, _+_, _*_}
 use Rattle.words.specs.Word.{numberAt}
 
 abbrev pub recordSize : ℕ
@@ -24,10 +24,6 @@ threadAt = 24
 -- the word at an offset of record j
 unfoldable pub recordWord : List ℕ → ℕ → ℕ → ℕ
 recordWord records j offset = numberAt 4 records (j * recordSize + offset)
-
--- the word at an offset of the record at an address, where the records stand from `base` on
-unfoldable pub wordOfRecordAt : List ℕ → ℕ → ℕ → ℕ → ℕ
-wordOfRecordAt records base address offset = numberAt 4 records (address - base + offset)
 
 -- the next word of record j
 abbrev pub nextWord : List ℕ → ℕ → ℕ

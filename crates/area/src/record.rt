@@ -1,9 +1,10 @@
 // The words of a record: next at 0, the buffer's address at 4, the stamp's high half at 16 and its low half at 20, the
 // thread at 24.
 ghost use mathlib.Core.Path.{_≡_};
-ghost use Prim.Native.Nat.{_+_, _*_, _≤_};
+ghost use Prim.Native.Nat.{_+_, _-_, _*_, _≤_};
 ghost use lib.ListN.{length};
-ghost use Rattle.area.specs.Record.{recordSize, recordWord, wordOfRecordAt};
+ghost use Rattle.words.specs.Word.{numberAt};
+ghost use Rattle.area.specs.Record.{recordSize, recordWord};
 ghost use Rattle.area.specs.Areas.{stamped};
 use crate::window;
 use crate::window::Word;
@@ -21,16 +22,13 @@ pub const STAMP_LOW: usize = 20;
 
 pub const THREAD: usize = 24;
 
-// The word at an offset of the record at an address: the records stand from `base` on. A record lies whole in its area, so
-// that each of its words is one.
-pub fn read_at(records: &[u8], base: u32, address: u32, offset: usize) -> u32
+// The word at an address, which lies whole in the records: they stand from `base` on.
+pub fn read_at(records: &[u8], base: u32, address: u32) -> u32
     requires { ⌜ base ≤ address ⌝ }
-    requires { ⌜ address + recordSize ≤ base + length (now records) ⌝ }
-    requires { ⌜ address + recordSize ≤ 4294967296 ⌝ }
-    requires { ⌜ offset + 4 ≤ recordSize ⌝ }
-    ensures { λ r. ⌜ r ≡ wordOfRecordAt (now (records .entry)) base address offset ⌝ }
+    requires { ⌜ address + 4 ≤ base + length (now records) ⌝ }
+    ensures { λ r. ⌜ r ≡ numberAt 4 (now (records .entry)) (address - base) ⌝ }
 {
-    let w = window::read_word(records, base, address + offset as u32);
+    let w = window::read_word(records, base, address);
     match w {
         Word::At(v) => v,
         Word::NoWord => 0,
@@ -44,7 +42,7 @@ pub fn read(records: &[u8], base: u32, j: usize, offset: usize) -> u32
     requires { ⌜ offset + 4 ≤ recordSize ⌝ }
     ensures { λ r. ⌜ r ≡ recordWord (now (records .entry)) j offset ⌝ }
 {
-    read_at(records, base, base + (j * SIZE) as u32, offset)
+    read_at(records, base, base + (j * SIZE + offset) as u32)
 }
 
 // Writes the stamp, whose high half is 0, and the thread of record j.

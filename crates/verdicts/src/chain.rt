@@ -59,7 +59,7 @@ fn walk(records: &&[u8], base: u32, n: usize, word: u32, marks: &mut [u8; 512], 
                 records,
                 base,
                 n,
-                record::read_at(*records, base, word, record::NEXT),
+                record::read_at(*records, base, word + record::NEXT as u32),
                 marks,
                 met + 1,
             )

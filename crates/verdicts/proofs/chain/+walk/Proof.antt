@@ -2,7 +2,7 @@
 -- Assumes nothing.
 use mathlib.Core.Path.{_≡_, sym, ap, _∙_}
 use mathlib.Core.List.{List, _∷_}
-use Prim.Native.Nat.{ℕ, suc, _<_}
+use Prim.Native.Nat.{ℕ, suc, _+_, _<_}
 use native.Mathlib.Omega.{arith}
 use borrow.Author.Needs.{needs}
 use borrow.Fn.Kinds.{In}
@@ -127,8 +127,14 @@ walk-returns-2 t c =
 walk-element-write-marks : (t : ℕ) → walk-lts.Need-element-write-marks (callees t) (walk-at t) walk.Post
 walk-element-write-marks t c = in-array t (c .before .before .before)
 
+walk-cast-read-at : (t : ℕ) → walk-lts.Need-cast-read-at (callees t) (walk-at t) walk.Post
+walk-cast-read-at t c = search needs
+
+walk-add-read-at : (t : ℕ) → walk-lts.Need-add-read-at (callees t) (walk-at t) walk.Post
+walk-add-read-at t c = search needs
+
 walk-read-at-requires : (t : ℕ) → walk-lts.Need-read-at-requires (callees t) (walk-at t) walk.Post
-walk-read-at-requires t c κs = let h = found t (c .before .before .before .before) in (omega arith, (omega arith, (omega arith, omega arith)))
+walk-read-at-requires t c κs = let h = found t (c .before .before .before .before) in (omega arith, omega arith)
 
 walk-add-walk : (t : ℕ) → walk-lts.Need-add-walk (callees t) (walk-at t) walk.Post
 walk-add-walk t c = let h = fewer t (c .before .before .before) in omega arith
@@ -163,7 +169,7 @@ walk-returns-4 t c =
     λ seen h.
     gives-meets _ (from (i ∷ seen) (c .before .before .read-at .result)) i seen (a .base) (a .n) (a .met) _ _
     (chain-meets _ _ _ seen (a .word) i (p .before .before .before .if1 .left) (is-at t p) (not-met 512 seen m i h (in-array t p) (f .if2 .left))
-    ∙ ap (λ (w : ℕ). meets i (from (i ∷ seen) w)) (sym (c .before .before .read-at .ensures ∙ record-at _ (a .base) (a .word) i nextAt (found t p .1))))
+    ∙ ap (λ (w : ℕ). meets i (from (i ∷ seen) w)) (sym (c .before .before .read-at .ensures ∙ record-at _ (a .base) _ i nextAt (ap (λ (w : ℕ). w + nextAt) (found t p .1)))))
     (c .walk .ensures (i ∷ seen) (ap (λ (l : List ℕ). set l i 1) h ∙ marks-set 512 i seen (in-array t p)))
 
 pub +walk-spec : {M : Type 1} → statement M
@@ -180,6 +186,8 @@ pub +walk-spec : {M : Type 1} → statement M
     (walk-pack-requires-3 t)
     (walk-returns-2 t)
     (walk-element-write-marks t)
+    (walk-cast-read-at t)
+    (walk-add-read-at t)
     (walk-read-at-requires t)
     (walk-add-walk t)
     (walk-walk-requires t)
