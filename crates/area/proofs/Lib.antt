@@ -2,3 +2,4 @@ pub mod Places
 pub mod Sheets
 pub mod Records
 mod Windows
+mod Apart
