@@ -1,7 +1,7 @@
 -- A window is taken apart, and a covered function is called on its bytes, its base and an address: a walk of the MIR that `word_at` and `byte_at` have but for the name of the function that they call, by hand. It is over that name and over the rule that the contracts cite. All that it knows of the function is that it meets its contract.
 -- The struct is Copy: what it owns is had twice, one copy is kept whole for the exit, and of the other what bytes owns goes to the callee, beside the lifetime's token, which comes back.
 -- Assumes nothing.
-use mathlib.Core.Path.{_≡_, refl}
+use mathlib.Core.Path.{_≡_, refl, subst}
 use Prim.Native.Nat.{ℕ, _<_, _^_}
 use mathlib.Core.List.{List, [], _∷_}
 use lib.Dec.{T as Holds}
@@ -74,7 +74,7 @@ module _ (rule : List ℕ → ℕ → ℕ → Word) {M : Type 1} (𝓤 : URA M) 
   abbrev inside : Clauses 𝓤 inner.ended
   inside κs a = record { ghost = Unit {0}; requires = λ _. emp 𝓤; ensures = λ _ r _. fact 𝓤 (r ≡ rule (now (a .0)) (a .1 .0) (a .1 .1 .0)) }
 
-  abbrev outside : Clauses 𝓤 outer.ended
+  abbrev pub outside : Clauses 𝓤 outer.ended
   outside κs a = record { ghost = Unit {0}; requires = λ _. emp 𝓤; ensures = λ _ r _. fact 𝓤 (r ≡ rule (now (a .0 .bytes)) (a .0 .base) (a .1 .0)) }
 
   module _ (H : Heap 𝓤) (A : Atoms 𝓤) where
@@ -169,7 +169,9 @@ module _ (rule : List ℕ → ℕ → ℕ → Word) (callee : Name) {M : Type 1}
 
 pub meets : (rule : List ℕ → ℕ → ℕ → Word) (callee : Name) {M : Type 1} (𝓤 : URA M) (H : Heap 𝓤) (A : Atoms 𝓤) (W : Given 𝓤 H A) (𝓣 : Tables 𝓤 H)
     → Triple 𝓤 (𝓣 .C callee) (Inner rule 𝓤 H A)
-    → Meets 𝓤 H A outer.signature (WpFn 𝓤 H (𝓣 .C) (𝓣 .Λ) (function callee)) (closing 𝓤 H A outer.ended (outside rule 𝓤))
-meets rule callee 𝓤 H A W 𝓣 known-inner =
-    walk-meets 𝓤 H A outer.ended stayed W (goes-none 𝓤 H A W 1 B yes (λ κs x f. refl), (goes-none 𝓤 H A W 1 (λ _. u32) yes (λ κs x f. refl), tt)) (outside rule 𝓤) (WpFn 𝓤 H (𝓣 .C) (𝓣 .Λ) (function callee)) (WpFn-mono 𝓤 H (W .laws) 𝓣 (function callee))
-    (outer-walks rule callee 𝓤 H A W (𝓣 .C) (𝓣 .Λ) (fmOf 𝓤 H (W .laws) 𝓣) known-inner)
+    → (c : Clauses 𝓤 outer.ended) → outside rule 𝓤 ≡ c
+    → Meets 𝓤 H A outer.signature (WpFn 𝓤 H (𝓣 .C) (𝓣 .Λ) (function callee)) (closing 𝓤 H A outer.ended c)
+meets rule callee 𝓤 H A W 𝓣 known-inner c is-rule =
+    subst (λ (d : Clauses 𝓤 outer.ended). Meets 𝓤 H A outer.signature (WpFn 𝓤 H (𝓣 .C) (𝓣 .Λ) (function callee)) (closing 𝓤 H A outer.ended d)) is-rule
+    (walk-meets 𝓤 H A outer.ended stayed W (goes-none 𝓤 H A W 1 B yes (λ κs x f. refl), (goes-none 𝓤 H A W 1 (λ _. u32) yes (λ κs x f. refl), tt)) (outside rule 𝓤) (WpFn 𝓤 H (𝓣 .C) (𝓣 .Λ) (function callee)) (WpFn-mono 𝓤 H (W .laws) 𝓣 (function callee))
+    (outer-walks rule callee 𝓤 H A W (𝓣 .C) (𝓣 .Λ) (fmOf 𝓤 H (W .laws) 𝓣) known-inner))

@@ -66,9 +66,9 @@ pub fn byte_at<'a>(w: Window<'a>, address: u32) -> Word
     byte_in(w.bytes, w.base, address)
 }
 
-// The word at an address, read through the window over bytes that stand from `base` on: for callers that hold no window.
-pub fn read_word(bytes: &[u8], base: u32, address: u32) -> Word
-    ensures { λ r. ⌜ r ≡ wordIn (now (bytes .entry)) base address ⌝ }
+// The word at an address of an area that stands from `base` on, read through its window: for callers that hold no window.
+pub fn read_word(area: &[u8], base: u32, address: u32) -> Word
+    ensures { λ r. ⌜ r ≡ wordIn (now (area .entry)) base address ⌝ }
 {
-    word_at(window_of(base, bytes), address)
+    word_at(window_of(base, area), address)
 }
