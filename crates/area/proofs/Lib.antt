@@ -1,3 +1,5 @@
 pub mod Places
 pub mod Sheets
-mod Records
+pub mod Records
+mod Windows
+mod Apart

@@ -1,13 +1,21 @@
--- What a call writes for a record. Assumes nothing.
-use mathlib.Core.Path.{_≡_}
+-- A record's words, by its index and by its address, and what a call writes for a record. Assumes nothing.
+use mathlib.Core.Path.{_≡_, ap}
 use mathlib.Core.List.{List}
-use Prim.Native.Nat.{ℕ, _+_, _*_}
+use Prim.Native.Nat.{ℕ, _+_, _-_, _*_}
 use native.Mathlib.Omega.{arith}
 use lib.Seq.{sets}
-use Rattle.words.specs.Word.{bytesOf}
+use Rattle.words.specs.Word.{bytesOf, numberAt}
 use Rattle.words.proofs.Laws.{sets-three}
 use Rattle.area.specs.Areas.{stamped}
-use Rattle.area.specs.Record.{recordSize, stampHighAt, stampLowAt, threadAt}
+use Rattle.area.specs.Place.{placeAddress}
+use Rattle.area.specs.Record.{recordSize, recordWord, stampHighAt, stampLowAt, threadAt}
+
+-- the word that stands `offset` bytes behind the address of record j is the record's word at that offset
+pub record-at : (l : List ℕ) (base address j offset : ℕ) → address ≡ placeAddress base recordSize j + offset → numberAt 4 l (address - base) ≡ recordWord l j offset
+unfolding recordWord
+record-at l base address j offset e =
+    let o : address - base ≡ j * recordSize + offset = omega arith in
+    ap (numberAt 4 l) o
 
 -- the stamp and the thread of record j: three words in a row
 pub stamped-run : (l a b c : List ℕ) (j uptime thread : ℕ)

@@ -1,10 +1,13 @@
 // The words of a record: next at 0, the buffer's address at 4, the slab at 8, the cache at 12, the stamp's high half at 16
 // and its low half at 20, the thread at 24.
 ghost use mathlib.Core.Path.{_≡_};
-ghost use Prim.Native.Nat.{_+_, _*_, _≤_};
+ghost use Prim.Native.Nat.{_+_, _-_, _*_, _≤_};
 ghost use lib.ListN.{length};
+ghost use Rattle.words.specs.Word.{numberAt};
 ghost use Rattle.area.specs.Record.{recordSize, recordWord};
 ghost use Rattle.area.specs.Areas.{stamped};
+use crate::window;
+use crate::window::Word;
 use words::word;
 
 pub const SIZE: usize = 96;
@@ -23,13 +26,27 @@ pub const STAMP_LOW: usize = 20;
 
 pub const THREAD: usize = 24;
 
+// The word at an address, which lies whole in the records: they stand from `base` on.
+pub fn read_at(records: &[u8], base: u32, address: u32) -> u32
+    requires { ⌜ base ≤ address ⌝ }
+    requires { ⌜ address + 4 ≤ base + length (now records) ⌝ }
+    ensures { λ r. ⌜ r ≡ numberAt 4 (now (records .entry)) (address - base) ⌝ }
+{
+    let w = window::read_word(records, base, address);
+    match w {
+        Word::At(v) => v,
+        Word::NoWord => 0,
+    }
+}
+
 // The word at an offset of record j.
-pub fn read(records: &[u8], j: usize, offset: usize) -> u32
+pub fn read(records: &[u8], base: u32, j: usize, offset: usize) -> u32
     requires { ⌜ j * recordSize + recordSize ≤ length (now records) ⌝ }
+    requires { ⌜ base + j * recordSize + recordSize ≤ 4294967296 ⌝ }
     requires { ⌜ offset + 4 ≤ recordSize ⌝ }
     ensures { λ r. ⌜ r ≡ recordWord (now (records .entry)) j offset ⌝ }
 {
-    word::read_u32(records, j * SIZE + offset)
+    read_at(records, base, base + (j * SIZE + offset) as u32)
 }
 
 // Writes the stamp, whose high half is 0, and the thread of record j.

@@ -100,7 +100,7 @@ fn take_head(heap: &[u8], records: &[u8], g: Sheet, grant: Grant) -> AllocatePla
                 g.heap,
                 g.chunk,
                 g.count,
-                record::read(records, j, record::BUFFER),
+                record::read(records, g.records, j, record::BUFFER),
             );
             match buffer {
                 Place::Nowhere => AllocatePlan::Refused(Refusal::Damage(Verdict::NotOneRecord)),
@@ -166,7 +166,7 @@ fn commit(
     let g = p.sheet;
     let at = p.buffer * g.chunk;
     let end = at + g.chunk;
-    let next = record::read(records, p.own, record::NEXT);
+    let next = record::read(records, g.records, p.own, record::NEXT);
     chunk::write_granted(&mut heap[at..end], g.head, grant);
     record::stamp(records, p.own, uptime, thread);
     word::write_u32(sheet, sheet::HEAD, next);

@@ -85,7 +85,7 @@ fn held_chunk(chunk: &[u8], records: &[u8], g: Sheet, address: u32, i: usize) ->
     match p {
         Place::Nowhere => Held::Refused(Refusal::Damage(Verdict::BadTag)),
         Place::At(j) => {
-            if record::read(records, j, record::BUFFER) == address {
+            if record::read(records, g.records, j, record::BUFFER) == address {
                 return held_by(chunk, g, i, j);
             }
             Held::Refused(Refusal::Damage(Verdict::BadTag))

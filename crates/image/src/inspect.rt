@@ -85,7 +85,7 @@ fn survey_open(heap: &[u8], records: &[u8], g: Sheet, rows: &mut [u32]) -> Walke
     ensures ending { λ r. ⌜ r .ending ≡ imageChain g (now (records .entry)) .ending ⌝ }
 {
     let mut pairs = [0u16; 512];
-    pairing::pair(records, g.heap, g.chunk, g.count, &mut pairs);
+    pairing::pair(records, g.records, g.heap, g.chunk, g.count, &mut pairs);
     let mut marks = [0u8; 512];
     let walked = chain::walk_from(records, g.records, g.count, g.head, &mut marks);
     let ending = walked.ending;

@@ -79,11 +79,11 @@ fn latest_owned(records: &[u8], log: &[u8], g: Sheet, j: usize, time: u32) -> Tr
     ensures { λ r. ⌜ r ≡ ownedLatest g (now (records .entry)) (now (log .entry)) time j ⌝ }
     ensures { λ r. ⌜ LatestIf (length (now (records .entry))) (length (now (log .entry))) r ⌝ }
 {
-    if record::read(records, j, record::STAMP_HIGH) != 0 {
+    if record::read(records, g.records, j, record::STAMP_HIGH) != 0 {
         return Transaction::Refused(Refusal::WideStamp);
     }
     let record_at = g.records + (j * record::SIZE) as u32;
-    let stamp = record::read(records, j, record::STAMP_LOW);
+    let stamp = record::read(records, g.records, j, record::STAMP_LOW);
     let best = latest_row(log, log.len() / ROW, record_at, stamp, time);
     let row = best.row;
     match row {
@@ -100,7 +100,7 @@ fn own_of(records: &[u8], g: Sheet, i: usize) -> Own
     ensures { λ r. ⌜ OwnIf (g .count) r ⌝ }
 {
     let mut pairs = [0u16; 512];
-    pairing::pair(records, g.heap, g.chunk, g.count, &mut pairs);
+    pairing::pair(records, g.records, g.heap, g.chunk, g.count, &mut pairs);
     pairing::own_record(&pairs, i)
 }
 

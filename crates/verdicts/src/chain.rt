@@ -38,6 +38,7 @@ fn pack(met: u64, word: u32) -> u64
 // that it is compiled to a loop.
 fn walk(records: &&[u8], base: u32, n: usize, word: u32, marks: &mut [u8; 512], met: u64) -> u64
     requires { ⌜ n * recordSize ≤ length (now (now records)) ⌝ }
+    requires { ⌜ base + n * recordSize ≤ 4294967296 ⌝ }
     requires { ⌜ n ≤ 512 ⌝ }
     requires { ⌜ length (now marks) ≡ 512 ⌝ }
     requires { ⌜ met + unmet (now marks) ≤ 512 ⌝ }
@@ -58,7 +59,7 @@ fn walk(records: &&[u8], base: u32, n: usize, word: u32, marks: &mut [u8; 512], 
                 records,
                 base,
                 n,
-                record::read(*records, i, record::NEXT),
+                record::read_at(*records, base, word + record::NEXT as u32),
                 marks,
                 met + 1,
             )
@@ -70,6 +71,7 @@ fn walk(records: &&[u8], base: u32, n: usize, word: u32, marks: &mut [u8; 512], 
 // ends is told by the word at which it stops: 0, no record's address, or that of a record already met.
 pub fn walk_from(records: &[u8], base: u32, n: usize, head: u32, marks: &mut [u8; 512]) -> Walked
     requires { ⌜ n * recordSize ≤ length (now records) ⌝ }
+    requires { ⌜ base + n * recordSize ≤ 4294967296 ⌝ }
     requires { ⌜ n ≤ 512 ⌝ }
     requires { ⌜ now marks ≡ replicate 512 0 ⌝ }
     ensures met { λ r. ⌜ r .met ≡ length (chainOf (now (records .entry)) base n head .met) ⌝ }

@@ -22,10 +22,19 @@ fn note(mark: u16, j: usize) -> u16
     if mark == 0 { (j + 1) as u16 } else { 65535 }
 }
 
-// One pass over the records of n buffers of `chunk` bytes from `base` on. The marks are 0 at entry. At exit the mark of a
-// buffer is 0 where no record names it, j + 1 where record j alone does, and 65535 where several do.
-pub fn pair(records: &[u8], base: u32, chunk: usize, n: usize, marks: &mut [u16; 512])
+// One pass over the records, which stand from `record_base` on, of n buffers of `chunk` bytes from `base` on. The marks are 0
+// at entry. At exit the mark of a buffer is 0 where no record names it, j + 1 where record j alone does, and 65535 where
+// several do.
+pub fn pair(
+    records: &[u8],
+    record_base: u32,
+    base: u32,
+    chunk: usize,
+    n: usize,
+    marks: &mut [u16; 512],
+)
     requires { ⌜ n * recordSize ≤ length (now records) ⌝ }
+    requires { ⌜ «record_base» + n * recordSize ≤ 4294967296 ⌝ }
     requires { ⌜ n ≤ 512 ⌝ }
     requires { ⌜ 0 < chunk ⌝ }
     requires { ⌜ now marks ≡ replicate 512 0 ⌝ }
@@ -33,7 +42,7 @@ pub fn pair(records: &[u8], base: u32, chunk: usize, n: usize, marks: &mut [u16;
 {
     let mut j = 0;
     while j < n {
-        let w = record::read(records, j, record::BUFFER);
+        let w = record::read(records, record_base, j, record::BUFFER);
         let p = place::find(base, chunk, n, w);
         match p {
             Place::At(i) => {

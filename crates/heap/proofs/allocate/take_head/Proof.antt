@@ -7,7 +7,7 @@ use lib.ListN.{length, take, drop}
 use Rattle.heap.specs.Allocate.{takenChunk, takenHead}
 use Rattle.heap.proofs.Takings.{spot-taken}
 use Rattle.area.proofs.Places.{place-found}
-use Rattle.area.proofs.Sheets.{chunk-inside, chunk-small, record-inside, lent-long}
+use Rattle.area.proofs.Sheets.{chunk-inside, chunk-small, record-inside, record-word, lent-long}
 use Rattle.words.specs.Word.{part}
 use Rattle.heap.proofs.allocate.take_head.Statement.{statement}
 use Rattle.heap.proofs.allocate.take_head.Tie as tie
@@ -33,8 +33,9 @@ read-requires : tie.Need-read-requires
 read-requires c κs =
     let s = c .before .before .before .before .before .before in
     let h = record-inside (s .args .g) (s .pre .0 .law) _ (own (c .before)) in
+    let w = record-word (s .args .g) (s .pre .0 .law) _ (own (c .before)) in
     let e = s .pre .0 .recordsLong in
-    (omega arith, omega arith)
+    (omega arith, (omega arith, omega arith))
 
 find-requires-2 : tie.Need-find-requires-2
 find-requires-2 c κs = search needs

@@ -7,7 +7,7 @@ use borrow.Author.Needs.{needs}
 use lib.ListN.{length}
 use Rattle.tags.specs.Chunk.{bufferSize, tagAt}
 use Rattle.heap.proofs.Holdings.{held-by-if}
-use Rattle.area.proofs.Sheets.{record-inside}
+use Rattle.area.proofs.Sheets.{record-inside, record-word}
 use Rattle.area.proofs.Places.{place-found}
 use Rattle.heap.specs.Holding.{heldChunk, HeldIf}
 use Rattle.area.specs.Areas.{Ready}
@@ -35,8 +35,9 @@ read-requires : tie.Need-read-requires
 read-requires c κs =
     let s = c .before .before .before .before .before .before .before in
     let h = record-inside (s .args .g) (s .pre .1 .0 .law) _ (own (c .before)) in
+    let w = record-word (s .args .g) (s .pre .1 .0 .law) _ (own (c .before)) in
     let e = s .pre .1 .0 .recordsLong in
-    (omega arith, omega arith)
+    (omega arith, (omega arith, omega arith))
 
 held-by-requires : tie.Need-held-by-requires
 held-by-requires c κs = search needs

@@ -2,19 +2,20 @@
 -- Assumes nothing.
 use mathlib.Core.Path.{_≡_, sym, ap, _∙_}
 use mathlib.Core.List.{List, _∷_}
-use Prim.Native.Nat.{ℕ, suc, _<_}
+use Prim.Native.Nat.{ℕ, suc, _+_, _<_}
 use native.Mathlib.Omega.{arith}
 use borrow.Author.Needs.{needs}
 use borrow.Fn.Kinds.{In}
 use borrow.Fn.PlainCycle.{Measures, is, falls, and}
 use lib.ListN.{length, set, length-set}
-use Rattle.area.specs.Place.{placeOf}
-use Rattle.area.specs.Record.{recordSize}
+use Rattle.area.specs.Place.{placeAddress, placeOf}
+use Rattle.area.specs.Record.{recordSize, nextAt}
 use Rattle.verdicts.specs.Chain.{meets}
 use Rattle.verdicts.specs.Walk.{unmet, chainAfter}
 use Rattle.area.specs.declared.place.Place.the-variants.{At, Nowhere}
 use Rattle.verdicts.specs.declared.chain.Ending.the-variants.{End, Broken, Again}
 use Rattle.area.proofs.Places.{place-found}
+use Rattle.area.proofs.Records.{record-at}
 use Rattle.verdicts.proofs.Chains.{chain-end, chain-broken, chain-again, chain-meets, is-met, not-met, marks-set, unmet-set, ending-end, ending-place, gives-stop, gives-meets}
 use Rattle.verdicts.proofs.chain.+walk.{statement}
 use Rattle.verdicts.proofs.chain.+walk.Tie.{close}
@@ -23,7 +24,7 @@ use Rattle.verdicts.proofs.chain.walk.Kinds as walk-kinds
 use Rattle.verdicts.proofs.chain.+walk.Lts-walk as walk-lts
 use Rattle.verdicts.proofs.chain.pack.Reads as pack-reads
 use Rattle.area.proofs.place.find.Reads as find-reads
-use Rattle.area.proofs.record.read.Reads as read-reads
+use Rattle.area.proofs.record.read_at.Reads as read-at-reads
 use denote.Ref.{now}
 
 abbrev μ-walk : Measures 3 walk-kinds.ps ℕ
@@ -42,8 +43,8 @@ callees t = (
   pack-reads.Learnt,
   find-reads.Asked,
   find-reads.Learnt,
-  read-reads.Asked,
-  read-reads.Learnt,
+  read-at-reads.Asked,
+  read-at-reads.Learnt,
   walk-below t,
   walk.Post,
 )
@@ -63,10 +64,11 @@ module _ (t : ℕ) (c : At-p t) where
   is-at : let a = c .before .before .before .before .args in placeOf (a .base) recordSize (a .n) (a .word) ≡ At index
   is-at = sym (c .before .before .find .ensures) ∙ c .p .given .1
 
+  found : let a = c .before .before .before .before .args in (index < a .n) × (a .word ≡ placeAddress (a .base) recordSize index)
+  found = let a = c .before .before .before .before .args in place-found (a .base) recordSize (a .n) (a .word) index is-at
+
   inside : index < c .before .before .before .before .args .n
-  inside =
-      let a = c .before .before .before .before .args in
-      place-found (a .base) recordSize (a .n) (a .word) index is-at .0
+  inside = found .0
 
   in-array : index < 512
   in-array = let h = inside in omega arith
@@ -125,8 +127,14 @@ walk-returns-2 t c =
 walk-element-write-marks : (t : ℕ) → walk-lts.Need-element-write-marks (callees t) (walk-at t) walk.Post
 walk-element-write-marks t c = in-array t (c .before .before .before)
 
-walk-read-requires : (t : ℕ) → walk-lts.Need-read-requires (callees t) (walk-at t) walk.Post
-walk-read-requires t c κs = let h = inside t (c .before .before .before .before) in omega arith
+walk-cast-read-at : (t : ℕ) → walk-lts.Need-cast-read-at (callees t) (walk-at t) walk.Post
+walk-cast-read-at t c = search needs
+
+walk-add-read-at : (t : ℕ) → walk-lts.Need-add-read-at (callees t) (walk-at t) walk.Post
+walk-add-read-at t c = search needs
+
+walk-read-at-requires : (t : ℕ) → walk-lts.Need-read-at-requires (callees t) (walk-at t) walk.Post
+walk-read-at-requires t c κs = let h = found t (c .before .before .before .before) in (omega arith, omega arith)
 
 walk-add-walk : (t : ℕ) → walk-lts.Need-add-walk (callees t) (walk-at t) walk.Post
 walk-add-walk t c = let h = fewer t (c .before .before .before) in omega arith
@@ -138,7 +146,7 @@ walk-walk-requires t c κs =
     let s = f .before .before .before .before .before .before .before in
     let m = s .args .marks .now in
     let h = fewer t f in
-    (omega arith, (s .pre .1 .0, (s .pre .1 .1 .0, (length-set m i 1 ∙ s .pre .1 .1 .1 .0, omega arith))))
+    (omega arith, (s .pre .1 .0, (s .pre .1 .1 .0, (s .pre .1 .1 .1 .0, (length-set m i 1 ∙ s .pre .1 .1 .1 .1 .0, omega arith)))))
 
 walk-returns-3 : (t : ℕ) → walk-lts.Need-returns-3 (callees t) (walk-at t) walk.Post
 walk-returns-3 t c =
@@ -159,9 +167,9 @@ walk-returns-4 t c =
     let m = a .marks .now in
     let from = chainAfter (now (a .records .now)) (a .base) (a .n) in
     λ seen h.
-    gives-meets _ (from (i ∷ seen) (c .before .before .read .result)) i seen (a .base) (a .n) (a .met) _ _
+    gives-meets _ (from (i ∷ seen) (c .before .before .read-at .result)) i seen (a .base) (a .n) (a .met) _ _
     (chain-meets _ _ _ seen (a .word) i (p .before .before .before .if1 .left) (is-at t p) (not-met 512 seen m i h (in-array t p) (f .if2 .left))
-    ∙ ap (λ (w : ℕ). meets i (from (i ∷ seen) w)) (sym (c .before .before .read .ensures)))
+    ∙ ap (λ (w : ℕ). meets i (from (i ∷ seen) w)) (sym (c .before .before .read-at .ensures ∙ record-at _ (a .base) _ i nextAt (ap (λ (w : ℕ). w + nextAt) (found t p .1)))))
     (c .walk .ensures (i ∷ seen) (ap (λ (l : List ℕ). set l i 1) h ∙ marks-set 512 i seen (in-array t p)))
 
 pub +walk-spec : {M : Type 1} → statement M
@@ -178,7 +186,9 @@ pub +walk-spec : {M : Type 1} → statement M
     (walk-pack-requires-3 t)
     (walk-returns-2 t)
     (walk-element-write-marks t)
-    (walk-read-requires t)
+    (walk-cast-read-at t)
+    (walk-add-read-at t)
+    (walk-read-at-requires t)
     (walk-add-walk t)
     (walk-walk-requires t)
     (walk-returns-3 t)

@@ -15,9 +15,9 @@ use Rattle.verdicts.proofs.chain.walk_from.Tie as tie
 walk-requires : tie.Need-walk-requires
 walk-requires c κs =
     let s = c .before .before .before in
-    let e = s .pre .1 .1 ∙ sym (marks-none 512) in
+    let e = s .pre .1 .1 .1 ∙ sym (marks-none 512) in
     let l : length (s .args .marks .now) ≡ 512 = ap length e ∙ length-marks 512 [] in
-    (s .pre .0, (s .pre .1 .0, (l, omega (arith, unmet-most (s .args .marks .now)))))
+    (s .pre .0, (s .pre .1 .0, (s .pre .1 .1 .0, (l, omega (arith, unmet-most (s .args .marks .now))))))
 
 -- what the walk gives
 came : (c : tie.After-walk) →
@@ -28,7 +28,7 @@ came : (c : tie.After-walk) →
 came c =
     let s = c .before .before .before .before in
     let a = s .args in
-    gives-all (a .t1 .now) (a .base) (a .n) (a .head) (c .walk .result) (c .walk .last .1 .1 .1 .1 .0) (c .walk .ensures [] (s .pre .1 .1 ∙ sym (marks-none 512)))
+    gives-all (a .t1 .now) (a .base) (a .n) (a .head) (c .walk .result) (c .walk .last .1 .1 .1 .1 .0) (c .walk .ensures [] (s .pre .1 .1 .1 ∙ sym (marks-none 512)))
 
 cast-word : tie.Need-cast-word
 cast-word c = search needs

@@ -15,10 +15,10 @@ use Rattle.verdicts.proofs.pairing.pair.Statement.{statement}
 use Rattle.verdicts.proofs.pairing.pair.Tie as tie
 
 abbrev Inv-loop : tie.InvT-loop
-Inv-loop records base chunk n marks₀ j₀ marks j = (j ≤ n) × ((length marks ≡ 512) × Marks (addressWord records) base chunk n j marks)
+Inv-loop records from base chunk n marks₀ j₀ marks j = (j ≤ n) × ((length marks ≡ 512) × Marks (addressWord records) base chunk n j marks)
 
 abbrev μ-loop : tie.MeasureT-loop
-μ-loop records base chunk n marks₀ j₀ marks j = n - j
+μ-loop records from base chunk n marks₀ j₀ marks j = n - j
 
 -- where record j names buffer `index`
 module _ (c : tie.After-p Inv-loop μ-loop) where
@@ -40,8 +40,8 @@ module _ (c : tie.After-p Inv-loop μ-loop) where
 loop-holds : tie.Need-loop-holds Inv-loop μ-loop
 loop-holds c =
     let a = c .before .args in
-    let e = c .before .pre .1 .1 .1 in
-    (search needs, (ap length e ∙ length-replicate {A = ℕ} 512 0, subst (Marks (addressWord (a .records .now)) (a .base) (a .chunk) (a .n) 0) (sym e) (marks-none _ (a .base) (a .chunk) (a .n) 512 (c .before .pre .1 .0))))
+    let e = c .before .pre .1 .1 .1 .1 in
+    (search needs, (ap length e ∙ length-replicate {A = ℕ} 512 0, subst (Marks (addressWord (a .records .now)) (a .base) (a .chunk) (a .n) 0) (sym e) (marks-none _ (a .base) (a .chunk) (a .n) 512 (c .before .pre .1 .1 .0))))
 
 read-requires : tie.Need-read-requires Inv-loop μ-loop
 read-requires c κs = search needs
@@ -93,11 +93,11 @@ loop-again c =
           let i = w .1 .given .0 .0 in
           let h = names (record { before = record { before = b; match = w .0 }; p = w .1 }) in
           let e = w .5 ∙ ap (set m i) (w .4 .ensures) in
-          (ap length e ∙ length-set m i _ ∙ v .1 .0, subst (M (suc j)) (sym e) (marks-hit word (a .base) (a .chunk) (a .n) j i m (s .pre .1 .1 .0) (omega arith) (h .0) (h .1) (v .1 .1))))
+          (ap length e ∙ length-set m i _ ∙ v .1 .0, subst (M (suc j)) (sym e) (marks-hit word (a .base) (a .chunk) (a .n) j i m (s .pre .1 .1 .1 .0) (omega arith) (h .0) (h .1) (v .1 .1))))
           (λ w. (
             ap length (w .2) ∙ v .1 .0,
             subst (M (suc j)) (sym (w .2)) (marks-miss word (a .base) (a .chunk) (a .n) j m
-                (λ i l e. place-missed (a .base) (a .chunk) (a .n) _ (s .pre .1 .1 .0) (sym (b .find .ensures) ∙ w .1 .given .1) i l (b .before .read .ensures ∙ e)) (v .1 .1)),
+                (λ i l e. place-missed (a .base) (a .chunk) (a .n) _ (s .pre .1 .1 .1 .0) (sym (b .find .ensures) ∙ w .1 .given .1) i l (b .before .read .ensures ∙ e)) (v .1 .1)),
           ))
           (c .match .came)),
     )
@@ -109,7 +109,7 @@ returns c =
     let a = s .args in
     let v = c .before .loop .inv in
     let e : c .before .loop .j ≡ a .n = omega arith in
-    marks-all (addressWord (a .records .now)) (a .base) (a .chunk) (a .n) (c .before .loop .marks) (s .pre .1 .0)
+    marks-all (addressWord (a .records .now)) (a .base) (a .chunk) (a .n) (c .before .loop .marks) (s .pre .1 .1 .0)
     (subst (λ (k : ℕ). Marks (addressWord (a .records .now)) (a .base) (a .chunk) (a .n) k (c .before .loop .marks)) e (v .1 .1))
 
 pub pair-spec : {M : Type 1} → statement M
