@@ -26,7 +26,8 @@ pub const STAMP_LOW: usize = 20;
 
 pub const THREAD: usize = 24;
 
-// The word at an address, which lies whole in the records: they stand from `base` on.
+// The word at an address, read through the window of the records, which stand from `base` on. It lies whole inside, so that it
+// is a word, and the other case does not arise.
 pub fn read_at(records: &[u8], base: u32, address: u32) -> u32
     requires { ⌜ base ≤ address ⌝ }
     requires { ⌜ address + 4 ≤ base + length (now records) ⌝ }

@@ -1,6 +1,6 @@
 // An address window: a base address together with the lent bytes it stands for. "A word partly outside it is no word."
-// The functions over the struct only take it apart; `word_in` and `byte_in` read. A caller that has the bytes and the base
-// as they are asks `read_word`.
+// The functions over the struct only make it or take it apart; `word_in` and `byte_in` read. A caller that holds the bytes
+// and the base by themselves asks `read_word`.
 ghost use mathlib.Core.Path.{_≡_};
 ghost use Rattle.area.specs.Window.{wordIn, byteIn};
 use words::word;
