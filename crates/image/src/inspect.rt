@@ -1,13 +1,14 @@
-// The findings of an image: a row of three numbers for each buffer, its index, its verdict's number, and the verdict's size or
-// offset. One pass over the records, one walk of the chain, one pass over the heap.
+// The findings of an image: for each buffer its index and its verdict, with its size or offset, as a struct or as three
+// numbers. One pass over the records, one walk of the chain, one pass over the heap.
 ghost use mathlib.Core.Path.{_≡_};
 ghost use Prim.Native.Nat.{_+_, _*_, _≤_, _<_};
 ghost use lib.ListN.{length};
 ghost use lib.Seq.{sets};
 ghost use Rattle.area.specs.Sheet.{Lawful, Open, heapLength};
-ghost use Rattle.verdicts.specs.Pairing.{PairedIn, ofMark};
+ghost use Rattle.verdicts.specs.Pairing.{Paired, PairedIn, ofMark};
+ghost use Rattle.verdicts.specs.Walk.{marksOf};
 ghost use Rattle.verdicts.specs.Judge.{judged, marked, imageChain};
-ghost use Rattle.image.specs.Inspect.{rowOf, rowsOf, judgedBy, findingsOf, inspectOf, InspectedIf, surveyOf, SurveyedIf};
+ghost use Rattle.image.specs.Inspect.{inspectOf, foundBy, started, Ready, Begins, rowOf, rowsOf, judgedBy, tableOf, tabulateOf, InspectedIf, surveyOf, SurveyedIf};
 use area::refusal::Refusal;
 use area::sheet;
 use area::sheet::Opened;
@@ -26,6 +27,28 @@ pub enum Inspected {
     Refused(Refusal),
 }
 
+// What is found of a buffer: its index, and its verdict, with its size or offset.
+pub struct Finding {
+    pub index: usize,
+    pub verdict: Verdict,
+}
+
+// What an inspection starts from: the sheet's numbers, how many buffers are judged, how the chain ends, and the answer. No
+// buffer is judged where it is refused.
+pub struct Start {
+    pub sheet: Sheet,
+    pub count: usize,
+    pub ending: Ending,
+    pub answer: Inspected,
+}
+
+// That, with each buffer's own record and the records that the chain met.
+pub struct Begun {
+    pub start: Start,
+    pub pairs: [u16; 512],
+    pub marks: [u8; 512],
+}
+
 // The number of buffers of an image, how many records its chain meets and how it ends; the findings stand in the lent row.
 pub struct Overview {
     pub count: usize,
@@ -39,7 +62,94 @@ pub enum Surveyed {
     Refused(Refusal),
 }
 
-// Writes the row of buffer i.
+// An inspection that is refused.
+fn refuse(why: Refusal) -> Begun
+    ensures { λ r. ⌜ (r .start .count ≡ 0) × (r .start .answer ≡ Inspected.Refused why) ⌝ }
+{
+    let sheet = Sheet {
+        cache: 0,
+        heap: 0,
+        records: 0,
+        size: 0,
+        chunk: 0,
+        count: 0,
+        head: 0,
+        flags: 0,
+    };
+    let start = Start {
+        sheet,
+        count: 0,
+        ending: Ending::End,
+        answer: Inspected::Refused(why),
+    };
+    Begun {
+        start,
+        pairs: [0u16; 512],
+        marks: [0u8; 512],
+    }
+}
+
+// Pairs the buffers of an open image with their records, and walks its chain.
+fn note(records: &[u8], g: Sheet) -> Begun
+    requires { ⌜ Open (g .count * g .chunk) (length (now records)) g ⌝ }
+    ensures start { λ r. ⌜ r .start ≡ started g (now (records .entry)) ⌝ }
+    ensures pairs { λ r. ⌜ Paired (now (records .entry)) (g .heap) (g .chunk) (g .count) (r .pairs) ⌝ }
+    ensures marks { λ r. ⌜ r .marks ≡ marksOf 512 (imageChain g (now (records .entry)) .met) ⌝ }
+{
+    let mut pairs = [0u16; 512];
+    pairing::pair(records, g.heap, g.chunk, g.count, &mut pairs);
+    let mut marks = [0u8; 512];
+    let walked = chain::walk_from(records, g.records, g.count, g.head, &mut marks);
+    let ending = walked.ending;
+    let start = Start {
+        sheet: g,
+        count: g.count,
+        ending,
+        answer: Inspected::Count(g.count),
+    };
+    Begun {
+        start,
+        pairs,
+        marks,
+    }
+}
+
+// Opens an image, and readies all that its buffers are judged by, for a lent row of so many findings.
+fn begin(sheet: &[u8], heap: &[u8], records: &[u8], rows: usize) -> Begun
+    ensures { λ r. ⌜ Begins (now (sheet .entry)) (now (heap .entry)) (now (records .entry)) rows r ⌝ }
+{
+    let opened = sheet::open(sheet, heap.len(), records.len());
+    match opened {
+        Opened::Refused(why) => refuse(why),
+        Opened::Image(g) => {
+            if rows < g.count {
+                return refuse(Refusal::ShortOutput);
+            }
+            note(records, g)
+        }
+    }
+}
+
+// The finding of buffer i.
+fn find<'a>(
+    heap: &[u8],
+    start: Start,
+    pairs: &'a [u16; 512],
+    marks: &'a [u8; 512],
+    i: usize,
+) -> Finding
+    requires { ⌜ Ready (length (now heap)) start (now pairs) ⌝ }
+    requires { ⌜ i < start .count ⌝ }
+    ensures { λ r. ⌜ r ≡ foundBy (now (heap .entry)) start (now (pairs .entry)) (now (marks .entry)) i ⌝ }
+{
+    let own = pairing::own_record(pairs, i);
+    let g = start.sheet;
+    let ending = start.ending;
+    let verdict = judge::judge_buffer(heap, g, i, own, marks, ending);
+    Finding { index: i, verdict }
+}
+
+// Writes the numbers of buffer i.
 fn put_row(rows: &mut [u32], i: usize, v: Verdict)
     requires { ⌜ i < 512 ⌝ }
     requires { ⌜ i * 3 + 3 ≤ length (now rows) ⌝ }
@@ -80,7 +190,7 @@ fn judge_rows(
 fn survey_open(heap: &[u8], records: &[u8], g: Sheet, rows: &mut [u32]) -> Walked
     requires { ⌜ Open (length (now heap)) (length (now records)) g ⌝ }
     requires { ⌜ g .count * 3 ≤ length (now rows) ⌝ }
-    ensures rows { λ _. ⌜ now (rows .exit) ≡ sets (now (rows .entry)) 0 (findingsOf g (now (heap .entry)) (now (records .entry))) ⌝ }
+    ensures rows { λ _. ⌜ now (rows .exit) ≡ sets (now (rows .entry)) 0 (tableOf g (now (heap .entry)) (now (records .entry))) ⌝ }
     ensures met { λ r. ⌜ r .met ≡ length (imageChain g (now (records .entry)) .met) ⌝ }
     ensures ending { λ r. ⌜ r .ending ≡ imageChain g (now (records .entry)) .ending ⌝ }
 {
@@ -94,9 +204,9 @@ fn survey_open(heap: &[u8], records: &[u8], g: Sheet, rows: &mut [u32]) -> Walke
 }
 
 // Fills a lent row of numbers, three for each buffer, or refuses and leaves it as it was.
-pub fn inspect(sheet: &[u8], heap: &[u8], records: &[u8], rows: &mut [u32]) -> Inspected
-    ensures answer { λ r. ⌜ r ≡ inspectOf (now (sheet .entry)) (now (heap .entry)) (now (records .entry)) (now (rows .entry)) .answer ⌝ }
-    ensures rows { λ _. ⌜ now (rows .exit) ≡ inspectOf (now (sheet .entry)) (now (heap .entry)) (now (records .entry)) (now (rows .entry)) .rows ⌝ }
+pub fn tabulate(sheet: &[u8], heap: &[u8], records: &[u8], rows: &mut [u32]) -> Inspected
+    ensures answer { λ r. ⌜ r ≡ tabulateOf (now (sheet .entry)) (now (heap .entry)) (now (records .entry)) (now (rows .entry)) .answer ⌝ }
+    ensures rows { λ _. ⌜ now (rows .exit) ≡ tabulateOf (now (sheet .entry)) (now (heap .entry)) (now (records .entry)) (now (rows .entry)) .rows ⌝ }
     ensures small { λ r. ⌜ InspectedIf r ⌝ }
 {
     let opened = sheet::open(sheet, heap.len(), records.len());
@@ -113,7 +223,7 @@ pub fn inspect(sheet: &[u8], heap: &[u8], records: &[u8], rows: &mut [u32]) -> I
     }
 }
 
-// Fills a lent row of numbers as `inspect` does, of an image with a log, and tells of the chain too.
+// Fills a lent row of numbers as `tabulate` does, of an image with a log, and tells of the chain too.
 pub fn survey(sheet: &[u8], heap: &[u8], records: &[u8], log: &[u8], rows: &mut [u32]) -> Surveyed
     ensures answer { λ r. ⌜ r
         ≡ surveyOf (now (sheet .entry)) (now (heap .entry)) (now (records .entry)) (length (now (log .entry))) (now (rows .entry)) .answer ⌝ }

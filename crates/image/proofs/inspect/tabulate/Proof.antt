@@ -4,10 +4,10 @@ use native.Mathlib.Omega.{arith}
 use borrow.Author.Tests.{le-leb, lt-leb}
 use borrow.Author.Needs.{needs}
 use lib.ListN.{length}
-use Rattle.image.specs.Inspect.{inspectOf}
+use Rattle.image.specs.Inspect.{tabulateOf}
 use Rattle.area.specs.Sheet.{Open, OpenedIf}
-use Rattle.image.proofs.inspect.inspect.Statement.{statement}
-use Rattle.image.proofs.inspect.inspect.Tie as tie
+use Rattle.image.proofs.inspect.tabulate.Statement.{statement}
+use Rattle.image.proofs.inspect.tabulate.Tie as tie
 
 open-requires : tie.Need-open-requires
 open-requires c κs = search needs
@@ -28,25 +28,25 @@ mul-if1 : tie.Need-mul-if1
 mul-if1 c = let o = known (c .before) in let f = o .law .few in omega arith
 
 returns : tie.Need-returns
-unfolding inspectOf
+unfolding tabulateOf
 returns c = rw (← c .before .before .before .before .«open» .ensures .0, c .before .before .opened2 .given .1, lt-leb _ _ (c .if1 .taken)) (refl, (refl, tt))
 
 survey-open-requires : tie.Need-survey-open-requires
 survey-open-requires c κs = (known (c .before .before .before), omega arith)
 
 returns-2 : tie.Need-returns-2
-unfolding inspectOf
+unfolding tabulateOf
 returns-2 c = rw (← c .before .before .before .«open» .ensures .0, c .before .opened .given .1) (refl, (refl, tt))
 
 same-length : tie.Need-same-length
 same-length c = search needs
 
 returns-3 : tie.Need-returns-3
-unfolding inspectOf
+unfolding tabulateOf
 returns-3 c = rw (← c .before .before .before .before .before .before .before .before .«open» .ensures .0, c .before .before .before .before .before .before .opened2 .given .1, le-leb _ _ (c .before .before .before .before .if1 .left)) (refl, (c .before .before .survey-open .ensures .0, known (c .before .before .before .before .before .before) .law .few))
 
-pub inspect-spec : {M : Type 1} → statement M
-inspect-spec =
+pub tabulate-spec : {M : Type 1} → statement M
+tabulate-spec =
     tie.close
     (tie.spec
     open-requires
