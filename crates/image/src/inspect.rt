@@ -149,6 +149,24 @@ fn find<'a>(
     Finding { index: i, verdict }
 }
 
+// Fills a lent row of findings, one for each buffer, or refuses and leaves it as it was. Rows past the last buffer stay.
+pub fn inspect(sheet: &[u8], heap: &[u8], records: &[u8], rows: &mut [Finding]) -> Inspected
+    ensures answer { λ r. ⌜ r ≡ inspectOf (now (sheet .entry)) (now (heap .entry)) (now (records .entry)) (now (rows .entry)) .answer ⌝ }
+    ensures rows { λ _. ⌜ now (rows .exit) ≡ inspectOf (now (sheet .entry)) (now (heap .entry)) (now (records .entry)) (now (rows .entry)) .rows ⌝ }
+{
+    let begun = begin(sheet, heap, records, rows.len());
+    let start = begun.start;
+    let pairs = begun.pairs;
+    let marks = begun.marks;
+    let n = start.count;
+    let mut i = 0;
+    while i < n {
+        rows[i] = find(heap, start, &pairs, &marks, i);
+        i += 1;
+    }
+    start.answer
+}
+
 // Writes the numbers of buffer i.
 fn put_row(rows: &mut [u32], i: usize, v: Verdict)
     requires { ⌜ i < 512 ⌝ }
