@@ -14,7 +14,6 @@ use Rattle.verdicts.specs.Judge.{judged, marked, verdictOf, imageChain}
 use Rattle.area.specs.declared.sheet.Sheet.{Sheet}
 use Rattle.verdicts.specs.declared.chain.Ending.{Ending}
 use Rattle.verdicts.specs.declared.chain.Ending.the-variants as ending
-use Rattle.area.specs.declared.refusal.Refusal.{Refusal}
 use Rattle.area.specs.declared.refusal.Refusal.the-variants.{ShortOutput}
 use Rattle.image.specs.declared.inspect.Finding.{Finding}
 use Rattle.image.specs.declared.inspect.Start.{Start}
@@ -54,17 +53,14 @@ inspectOf s heap records rows =
 abbrev pub numbersOf : Finding → List ℕ
 numbersOf f = f .index ∷ verdictNumber (f .verdict) ∷ verdictValue (f .verdict) ∷ []
 
-abbrev pub rowOf : ℕ → Verdict → List ℕ
-rowOf i v = numbersOf (record { index = i; verdict = v })
+-- the numbers of the findings f 0 to f (n - 1)
+unfoldable pub rowsOf : (ℕ → Finding) → ℕ → List ℕ
+rowsOf f zero = []
+rowsOf f (suc i) = rowsOf f i ++ numbersOf (f i)
 
--- the numbers of buffers 0 to n - 1, whose verdicts are given
-unfoldable pub rowsOf : (ℕ → Verdict) → ℕ → List ℕ
-rowsOf v zero = []
-rowsOf v (suc i) = rowsOf v i ++ rowOf i (v i)
-
--- the numbers of an image
+-- the numbers of all findings of an image
 unfoldable pub tableOf : Sheet → List ℕ → List ℕ → List ℕ
-tableOf g heap records = rowsOf (verdictOf g heap records) (g .count)
+tableOf g heap records = rowsOf (findingOf g heap records) (g .count)
 
 -- what tabulate answers, and the lent row afterwards
 pub record Tabulation : Type 0 where
@@ -130,7 +126,13 @@ foundBy heap s pairs marks i = record { index = i; verdict = judgedBy heap (s .s
 
 -- what the inspection of an open image starts from
 abbrev pub started : Sheet → List ℕ → Start
-started g records = record { sheet = g; count = g .count; ending = imageChain g records .ending; answer = Count (g .count) }
+started g records = record {
+  sheet = g;
+  count = g .count;
+  met = length (imageChain g records .met);
+  ending = imageChain g records .ending;
+  answer = Count (g .count);
+}
 
 -- what an inspection must start from for its buffers to be judged, in a heap of h bytes
 pub record Ready (h : ℕ) (s : Start) (pairs : List ℕ) : Type 0 where

@@ -4,11 +4,11 @@ ghost use mathlib.Core.Path.{_≡_};
 ghost use Prim.Native.Nat.{_+_, _*_, _≤_, _<_};
 ghost use lib.ListN.{length};
 ghost use lib.Seq.{sets};
-ghost use Rattle.area.specs.Sheet.{Lawful, Open, heapLength};
-ghost use Rattle.verdicts.specs.Pairing.{Paired, PairedIn, ofMark};
+ghost use Rattle.area.specs.Sheet.{Open};
+ghost use Rattle.verdicts.specs.Pairing.{Paired};
 ghost use Rattle.verdicts.specs.Walk.{marksOf};
-ghost use Rattle.verdicts.specs.Judge.{judged, marked, imageChain};
-ghost use Rattle.image.specs.Inspect.{inspectOf, foundBy, started, Ready, Begins, rowOf, rowsOf, judgedBy, tableOf, tabulateOf, InspectedIf, surveyOf, SurveyedIf};
+ghost use Rattle.verdicts.specs.Judge.{imageChain};
+ghost use Rattle.image.specs.Inspect.{inspectOf, foundBy, started, Ready, Begins, numbersOf, rowsOf, tableOf, tabulateOf, InspectedIf, surveyOf, SurveyedIf};
 use area::refusal::Refusal;
 use area::sheet;
 use area::sheet::Opened;
@@ -17,7 +17,6 @@ use tags::verdict;
 use tags::verdict::Verdict;
 use verdicts::chain;
 use verdicts::chain::Ending;
-use verdicts::chain::Walked;
 use verdicts::judge;
 use verdicts::pairing;
 
@@ -33,11 +32,12 @@ pub struct Finding {
     pub verdict: Verdict,
 }
 
-// What an inspection starts from: the sheet's numbers, how many buffers are judged, how the chain ends, and the answer. No
-// buffer is judged where it is refused.
+// What an inspection starts from: the sheet's numbers, how many buffers are judged, how many records the chain meets and how it
+// ends, and the answer. No buffer is judged where it is refused.
 pub struct Start {
     pub sheet: Sheet,
     pub count: usize,
+    pub met: usize,
     pub ending: Ending,
     pub answer: Inspected,
 }
@@ -79,6 +79,7 @@ fn refuse(why: Refusal) -> Begun
     let start = Start {
         sheet,
         count: 0,
+        met: 0,
         ending: Ending::End,
         answer: Inspected::Refused(why),
     };
@@ -100,10 +101,12 @@ fn note(records: &[u8], g: Sheet) -> Begun
     pairing::pair(records, g.heap, g.chunk, g.count, &mut pairs);
     let mut marks = [0u8; 512];
     let walked = chain::walk_from(records, g.records, g.count, g.head, &mut marks);
+    let met = walked.met;
     let ending = walked.ending;
     let start = Start {
         sheet: g,
         count: g.count,
+        met,
         ending,
         answer: Inspected::Count(g.count),
     };
@@ -167,58 +170,54 @@ pub fn inspect(sheet: &[u8], heap: &[u8], records: &[u8], rows: &mut [Finding]) 
     start.answer
 }
 
-// Writes the numbers of buffer i.
-fn put_row(rows: &mut [u32], i: usize, v: Verdict)
-    requires { ⌜ i < 512 ⌝ }
-    requires { ⌜ i * 3 + 3 ≤ length (now rows) ⌝ }
-    ensures { λ _. ⌜ now (rows .exit) ≡ sets (now (rows .entry)) (i * 3) (rowOf i v) ⌝ }
+// Writes the numbers of a finding.
+fn put_row(rows: &mut [u32], f: Finding)
+    requires { ⌜ f .index < 512 ⌝ }
+    requires { ⌜ f .index * 3 + 3 ≤ length (now rows) ⌝ }
+    ensures { λ _. ⌜ now (rows .exit) ≡ sets (now (rows .entry)) (f .index * 3) (numbersOf f) ⌝ }
 {
+    let i = f.index;
+    let v = f.verdict;
     let at = i * 3;
     rows[at] = i as u32;
     rows[at + 1] = verdict::number(v);
     rows[at + 2] = verdict::value(v);
 }
 
-// Judges every buffer and writes its row, given the pairing's marks, the chain's marks and the chain's ending.
-fn judge_rows(
+// Judges every buffer and writes its numbers.
+fn judge_rows<'a>(
     heap: &[u8],
-    g: Sheet,
-    pairs: &[u16; 512],
-    marks: &[u8; 512],
-    ending: Ending,
+    start: Start,
+    pairs: &'a [u16; 512],
+    marks: &'a [u8; 512],
     rows: &mut [u32],
 )
-    requires { ⌜ Lawful g ⌝ }
-    requires { ⌜ length (now heap) ≡ heapLength g ⌝ }
-    requires { ⌜ PairedIn (g .count) (now pairs) ⌝ }
-    requires { ⌜ g .count * 3 ≤ length (now rows) ⌝ }
+    requires { ⌜ Ready (length (now heap)) start (now pairs) ⌝ }
+    requires { ⌜ start .count * 3 ≤ length (now rows) ⌝ }
     ensures { λ _. ⌜ now (rows .exit)
-        ≡ sets (now (rows .entry)) 0 (rowsOf (judgedBy (now (heap .entry)) g (now (pairs .entry)) (now (marks .entry)) ending) (g .count)) ⌝ }
+        ≡ sets (now (rows .entry)) 0 (rowsOf (foundBy (now (heap .entry)) start (now (pairs .entry)) (now (marks .entry))) (start .count)) ⌝ }
 {
-    let n = g.count;
+    let n = start.count;
     let mut i = 0;
     while i < n {
-        let own = pairing::own_record(pairs, i);
-        put_row(rows, i, judge::judge_buffer(heap, g, i, own, marks, ending));
+        put_row(rows, find(heap, start, pairs, marks, i));
         i += 1;
     }
 }
 
-// Judges every buffer of an open image, writes the rows, and answers the chain.
-fn survey_open(heap: &[u8], records: &[u8], g: Sheet, rows: &mut [u32]) -> Walked
+// Judges every buffer of an open image, writes the numbers, and answers what the judging started from.
+fn survey_open(heap: &[u8], records: &[u8], g: Sheet, rows: &mut [u32]) -> Start
     requires { ⌜ Open (length (now heap)) (length (now records)) g ⌝ }
     requires { ⌜ g .count * 3 ≤ length (now rows) ⌝ }
     ensures rows { λ _. ⌜ now (rows .exit) ≡ sets (now (rows .entry)) 0 (tableOf g (now (heap .entry)) (now (records .entry))) ⌝ }
-    ensures met { λ r. ⌜ r .met ≡ length (imageChain g (now (records .entry)) .met) ⌝ }
-    ensures ending { λ r. ⌜ r .ending ≡ imageChain g (now (records .entry)) .ending ⌝ }
+    ensures start { λ r. ⌜ r ≡ started g (now (records .entry)) ⌝ }
 {
-    let mut pairs = [0u16; 512];
-    pairing::pair(records, g.heap, g.chunk, g.count, &mut pairs);
-    let mut marks = [0u8; 512];
-    let walked = chain::walk_from(records, g.records, g.count, g.head, &mut marks);
-    let ending = walked.ending;
-    judge_rows(heap, g, &pairs, &marks, ending, rows);
-    walked
+    let begun = note(records, g);
+    let start = begun.start;
+    let pairs = begun.pairs;
+    let marks = begun.marks;
+    judge_rows(heap, start, &pairs, &marks, rows);
+    start
 }
 
 // Fills a lent row of numbers, three for each buffer, or refuses and leaves it as it was.
@@ -257,9 +256,9 @@ pub fn survey(sheet: &[u8], heap: &[u8], records: &[u8], log: &[u8], rows: &mut 
             if rows.len() < n * 3 {
                 return Surveyed::Refused(Refusal::ShortOutput);
             }
-            let walked = survey_open(heap, records, g, rows);
-            let met = walked.met;
-            let ending = walked.ending;
+            let start = survey_open(heap, records, g, rows);
+            let met = start.met;
+            let ending = start.ending;
             Surveyed::Image(Overview {
                 count: n,
                 met,

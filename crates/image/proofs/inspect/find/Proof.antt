@@ -1,8 +1,7 @@
 -- The verdict by the marks, beside the index. Assumes nothing.
-use mathlib.Core.Path.{_≡_, refl, sym, ap, _∙_, subst}
-use Prim.Native.Nat.{ℕ, _<_}
+use mathlib.Core.Path.{sym, ap, _∙_, subst}
+use Prim.Native.Nat.{_<_}
 use native.Mathlib.Omega.{arith}
-use borrow.Author.Needs.{needs}
 use Rattle.verdicts.specs.declared.pairing.Own.{Own}
 use Rattle.verdicts.specs.Pairing.{OwnIf}
 use Rattle.verdicts.specs.Judge.{judged, marked}

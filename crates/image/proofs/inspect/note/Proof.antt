@@ -1,9 +1,7 @@
 -- The pairing and the walk leave their marks. Assumes nothing.
-use mathlib.Core.Path.{refl, ap}
+use mathlib.Core.Path.{refl}
 use native.Mathlib.Omega.{arith}
 use borrow.Author.Needs.{needs}
-use Rattle.verdicts.specs.declared.chain.Ending.{Ending}
-use Rattle.image.specs.declared.inspect.Inspected.the-variants.{Count}
 use Rattle.image.proofs.inspect.note.Statement.{statement}
 use Rattle.image.proofs.inspect.note.Tie as tie
 
@@ -15,9 +13,8 @@ walk-from-requires c κs = search needs
 
 returns : tie.Need-returns
 returns c =
-    let g = c .before .before .before .before .before .args .g in
     let w = c .walk-from .ensures in
-    (ap (λ (e : Ending). record { sheet = g; count = g .count; ending = e; answer = Count (g .count) }) (w .1 .0), (c .before .before .pair .ensures, w .1 .1))
+    (rw (w .0, w .1 .0) refl, (c .before .before .pair .ensures, w .1 .1))
 
 pub note-spec : {M : Type 1} → statement M
 note-spec = tie.close (tie.spec pair-requires walk-from-requires returns)
