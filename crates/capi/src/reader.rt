@@ -1,7 +1,7 @@
 // What is read off an image.
 ghost use mathlib.Core.Path.{_≡_};
 ghost use lib.ListN.{length};
-ghost use Rattle.image.specs.Inspect.{inspectOf};
+ghost use Rattle.image.specs.Inspect.{tabulateOf};
 ghost use Rattle.image.specs.Latest.{latestOf};
 ghost use Rattle.report.specs.Answer.{reportOf};
 ghost use Rattle.capi.specs.Answer.{inspectWord, latestWord, reportWord};
@@ -18,11 +18,11 @@ use report::answer::Reported;
 #[no_mangle]
 pub extern "C" fn cg_inspect(sheet: &[u8], heap: &[u8], records: &[u8], rows: &mut [u32]) -> u64
     ensures answer { λ r. ⌜ r
-        ≡ inspectWord (inspectOf (now (sheet .entry)) (now (heap .entry)) (now (records .entry)) (now (rows .entry)) .answer) ⌝ }
+        ≡ inspectWord (tabulateOf (now (sheet .entry)) (now (heap .entry)) (now (records .entry)) (now (rows .entry)) .answer) ⌝ }
     ensures rows { λ _. ⌜ now (rows .exit)
-        ≡ inspectOf (now (sheet .entry)) (now (heap .entry)) (now (records .entry)) (now (rows .entry)) .rows ⌝ }
+        ≡ tabulateOf (now (sheet .entry)) (now (heap .entry)) (now (records .entry)) (now (rows .entry)) .rows ⌝ }
 {
-    let r = inspect::inspect(sheet, heap, records, rows);
+    let r = inspect::tabulate(sheet, heap, records, rows);
     match r {
         Inspected::Refused(why) => refused(why),
         Inspected::Count(n) => accepted(n as u32),

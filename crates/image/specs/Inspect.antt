@@ -1,50 +1,78 @@
 -- "Inspect fills a lent row of findings, one record per buffer, rows past n untouched; each holds index and verdict, with its size or offset." Assumes nothing.
+use mathlib.Core.Path.{_≡_}
 use mathlib.Core.List.{List, [], _∷_, _++_}
 use Prim.Native.Nat.{ℕ, zero, suc, _*_, _≤_, _<_}
 use lib.Dec.{leb}
-use lib.ListN.{length, getD}
+use lib.ListN.{length, getD, set}
 use lib.Seq.{sets}
 use Rattle.words.specs.Run.{pick}
 use Rattle.tags.specs.Verdict.{verdictNumber, verdictValue}
 use Rattle.tags.specs.declared.verdict.Verdict.{Verdict}
-use Rattle.area.specs.Sheet.{openedOf, openedWithLog, onOpened}
-use Rattle.verdicts.specs.Pairing.{ofMark}
+use Rattle.area.specs.Sheet.{Lawful, heapLength, openedOf, openedWithLog, onOpened}
+use Rattle.verdicts.specs.Pairing.{ofMark, PairedIn}
 use Rattle.verdicts.specs.Judge.{judged, marked, verdictOf, imageChain}
 use Rattle.area.specs.declared.sheet.Sheet.{Sheet}
 use Rattle.verdicts.specs.declared.chain.Ending.{Ending}
 use Rattle.verdicts.specs.declared.chain.Ending.the-variants as ending
-use Rattle.area.specs.declared.refusal.Refusal.{Refusal}
 use Rattle.area.specs.declared.refusal.Refusal.the-variants.{ShortOutput}
+use Rattle.image.specs.declared.inspect.Finding.{Finding}
+use Rattle.image.specs.declared.inspect.Start.{Start}
+use Rattle.image.specs.declared.inspect.Begun.{Begun}
 use Rattle.image.specs.declared.inspect.Overview.{Overview}
 use Rattle.image.specs.declared.inspect.Surveyed.{Surveyed}
 use Rattle.image.specs.declared.inspect.Surveyed.the-variants as surveys
 use Rattle.image.specs.declared.inspect.Inspected.{Inspected}
 use Rattle.image.specs.declared.inspect.Inspected.the-variants.{Count, Refused}
 
--- the numbers of a finding: the index, the verdict's number, and its size or offset, else 0
-abbrev pub rowOf : ℕ → Verdict → List ℕ
-rowOf i v = i ∷ verdictNumber v ∷ verdictValue v ∷ []
+-- "each holds index and verdict, with its size or offset": the finding of buffer i
+abbrev pub findingOf : Sheet → List ℕ → List ℕ → ℕ → Finding
+findingOf g heap records i = record { index = i; verdict = verdictOf g heap records i }
 
--- the rows of buffers 0 to n - 1
-unfoldable pub rowsOf : (ℕ → Verdict) → ℕ → List ℕ
-rowsOf v zero = []
-rowsOf v (suc i) = rowsOf v i ++ rowOf i (v i)
-
--- the rows of an image
-unfoldable pub findingsOf : Sheet → List ℕ → List ℕ → List ℕ
-findingsOf g heap records = rowsOf (verdictOf g heap records) (g .count)
+-- "one record per buffer, rows past n untouched": a lent row once the findings f 0 to f (n - 1) stand at their places
+abbrev pub filled : (ℕ → Finding) → List Finding → ℕ → List Finding
+filled f rows zero = rows
+filled f rows (suc i) = set (filled f rows i) i (f i)
 
 -- what inspect answers, and the lent row afterwards
 pub record Inspection : Type 0 where
   pub answer : Inspected
-  pub rows : List ℕ
+  pub rows : List Finding
 
--- "Inspect and report: 11", "output shorter than the exact need": three numbers for each buffer
-unfoldable pub inspectOf : List ℕ → List ℕ → List ℕ → List ℕ → Inspection
+-- "Inspect and report: 11", "output shorter than the exact need": a finding for each buffer
+unfoldable pub inspectOf : List ℕ → List ℕ → List ℕ → List Finding → Inspection
 inspectOf s heap records rows =
     onOpened (openedOf s (length heap) (length records))
+    (λ g. pick (leb (g .count) (length rows))
+    (record { answer = Count (g .count); rows = filled (findingOf g heap records) rows (g .count) })
+    (record { answer = Refused ShortOutput; rows = rows }))
+    (λ why. record { answer = Refused why; rows = rows })
+
+-- ---- the findings as numbers
+
+-- the numbers of a finding: the index, the verdict's number, and its size or offset, else 0
+abbrev pub numbersOf : Finding → List ℕ
+numbersOf f = f .index ∷ verdictNumber (f .verdict) ∷ verdictValue (f .verdict) ∷ []
+
+-- the numbers of the findings f 0 to f (n - 1)
+unfoldable pub rowsOf : (ℕ → Finding) → ℕ → List ℕ
+rowsOf f zero = []
+rowsOf f (suc i) = rowsOf f i ++ numbersOf (f i)
+
+-- the numbers of all findings of an image
+unfoldable pub tableOf : Sheet → List ℕ → List ℕ → List ℕ
+tableOf g heap records = rowsOf (findingOf g heap records) (g .count)
+
+-- what tabulate answers, and the lent row afterwards
+pub record Tabulation : Type 0 where
+  pub answer : Inspected
+  pub rows : List ℕ
+
+-- the same tests as inspect has; the exact need is three numbers for each buffer
+unfoldable pub tabulateOf : List ℕ → List ℕ → List ℕ → List ℕ → Tabulation
+tabulateOf s heap records rows =
+    onOpened (openedOf s (length heap) (length records))
     (λ g. pick (leb (g .count * 3) (length rows))
-    (record { answer = Count (g .count); rows = sets rows 0 (findingsOf g heap records) })
+    (record { answer = Count (g .count); rows = sets rows 0 (tableOf g heap records) })
     (record { answer = Refused ShortOutput; rows = rows }))
     (λ why. record { answer = Refused why; rows = rows })
 
@@ -61,12 +89,12 @@ pub record Surveying : Type 0 where
   pub answer : Surveyed
   pub rows : List ℕ
 
--- the same tests and the same rows as inspect has, of an image with a log of l bytes
+-- the same tests and the same rows as tabulate has, of an image with a log of l bytes
 unfoldable pub surveyOf : List ℕ → List ℕ → List ℕ → ℕ → List ℕ → Surveying
 surveyOf s heap records l rows =
     onOpened (openedWithLog s (length heap) (length records) l)
     (λ g. pick (leb (g .count * 3) (length rows))
-    (record { answer = surveys.Image (surveyed g records); rows = sets rows 0 (findingsOf g heap records) })
+    (record { answer = surveys.Image (surveyed g records); rows = sets rows 0 (tableOf g heap records) })
     (record { answer = surveys.Refused ShortOutput; rows = rows }))
     (λ why. record { answer = surveys.Refused why; rows = rows })
 
@@ -91,3 +119,33 @@ SurveyedIf (surveys.Refused why) = Unit {0}
 -- the verdict on buffer i, by the marks of the pairing and of the chain
 abbrev pub judgedBy : List ℕ → Sheet → List ℕ → List ℕ → Ending → ℕ → Verdict
 judgedBy heap g pairs marks ending i = judged heap g i (ofMark (getD pairs i 0)) (marked marks) ending
+
+-- the finding of buffer i, by the same marks
+abbrev pub foundBy : List ℕ → Start → List ℕ → List ℕ → ℕ → Finding
+foundBy heap s pairs marks i = record { index = i; verdict = judgedBy heap (s .sheet) pairs marks (s .ending) i }
+
+-- what the inspection of an open image starts from
+abbrev pub started : Sheet → List ℕ → Start
+started g records = record {
+  sheet = g;
+  count = g .count;
+  met = length (imageChain g records .met);
+  ending = imageChain g records .ending;
+  answer = Count (g .count);
+}
+
+-- what an inspection must start from for its buffers to be judged, in a heap of h bytes
+pub record Ready (h : ℕ) (s : Start) (pairs : List ℕ) : Type 0 where
+  pub law : Lawful (s .sheet)
+  pub long : h ≡ heapLength (s .sheet)
+  pub all : s .count ≡ s .sheet .count
+  pub paired : PairedIn (s .sheet .count) pairs
+
+-- what is begun, for a row of m findings: the buffers to be judged have a place in it and can be judged, and the answer and their findings are those of the
+-- inspection
+pub record Begins (s heap records : List ℕ) (m : ℕ) (b : Begun) : Type 0 where
+  pub within : b .start .count ≤ m
+  pub ready : 0 < b .start .count → Ready (length heap) (b .start) (b .pairs)
+  pub tells : (rows : List Finding) → length rows ≡ m
+      → inspectOf s heap records rows
+      ≡ record { answer = b .start .answer; rows = filled (foundBy heap (b .start) (b .pairs) (b .marks)) rows (b .start .count) }

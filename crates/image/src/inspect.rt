@@ -1,13 +1,14 @@
-// The findings of an image: a row of three numbers for each buffer, its index, its verdict's number, and the verdict's size or
-// offset. One pass over the records, one walk of the chain, one pass over the heap.
+// The findings of an image: for each buffer its index and its verdict, with its size or offset, as a struct or as three
+// numbers. One pass over the records, one walk of the chain, one pass over the heap.
 ghost use mathlib.Core.Path.{_≡_};
 ghost use Prim.Native.Nat.{_+_, _*_, _≤_, _<_};
 ghost use lib.ListN.{length};
 ghost use lib.Seq.{sets};
-ghost use Rattle.area.specs.Sheet.{Lawful, Open, heapLength};
-ghost use Rattle.verdicts.specs.Pairing.{PairedIn, ofMark};
-ghost use Rattle.verdicts.specs.Judge.{judged, marked, imageChain};
-ghost use Rattle.image.specs.Inspect.{rowOf, rowsOf, judgedBy, findingsOf, inspectOf, InspectedIf, surveyOf, SurveyedIf};
+ghost use Rattle.area.specs.Sheet.{Open};
+ghost use Rattle.verdicts.specs.Pairing.{Paired};
+ghost use Rattle.verdicts.specs.Walk.{marksOf};
+ghost use Rattle.verdicts.specs.Judge.{imageChain};
+ghost use Rattle.image.specs.Inspect.{inspectOf, foundBy, started, Ready, Begins, numbersOf, rowsOf, tableOf, tabulateOf, InspectedIf, surveyOf, SurveyedIf};
 use area::refusal::Refusal;
 use area::sheet;
 use area::sheet::Opened;
@@ -16,7 +17,6 @@ use tags::verdict;
 use tags::verdict::Verdict;
 use verdicts::chain;
 use verdicts::chain::Ending;
-use verdicts::chain::Walked;
 use verdicts::judge;
 use verdicts::pairing;
 
@@ -24,6 +24,29 @@ use verdicts::pairing;
 pub enum Inspected {
     Count(usize),
     Refused(Refusal),
+}
+
+// What is found of a buffer: its index, and its verdict, with its size or offset.
+pub struct Finding {
+    pub index: usize,
+    pub verdict: Verdict,
+}
+
+// What an inspection starts from: the sheet's numbers, how many buffers are judged, how many records the chain meets and how it
+// ends, and the answer. No buffer is judged where it is refused.
+pub struct Start {
+    pub sheet: Sheet,
+    pub count: usize,
+    pub met: usize,
+    pub ending: Ending,
+    pub answer: Inspected,
+}
+
+// That, with each buffer's own record and the records that the chain met.
+pub struct Begun {
+    pub start: Start,
+    pub pairs: [u16; 512],
+    pub marks: [u8; 512],
 }
 
 // The number of buffers of an image, how many records its chain meets and how it ends; the findings stand in the lent row.
@@ -39,64 +62,168 @@ pub enum Surveyed {
     Refused(Refusal),
 }
 
-// Writes the row of buffer i.
-fn put_row(rows: &mut [u32], i: usize, v: Verdict)
-    requires { ⌜ i < 512 ⌝ }
-    requires { ⌜ i * 3 + 3 ≤ length (now rows) ⌝ }
-    ensures { λ _. ⌜ now (rows .exit) ≡ sets (now (rows .entry)) (i * 3) (rowOf i v) ⌝ }
+// An inspection that is refused.
+fn refuse(why: Refusal) -> Begun
+    ensures { λ r. ⌜ (r .start .count ≡ 0) × (r .start .answer ≡ Inspected.Refused why) ⌝ }
 {
+    let sheet = Sheet {
+        cache: 0,
+        heap: 0,
+        records: 0,
+        size: 0,
+        chunk: 0,
+        count: 0,
+        head: 0,
+        flags: 0,
+    };
+    let start = Start {
+        sheet,
+        count: 0,
+        met: 0,
+        ending: Ending::End,
+        answer: Inspected::Refused(why),
+    };
+    Begun {
+        start,
+        pairs: [0u16; 512],
+        marks: [0u8; 512],
+    }
+}
+
+// Pairs the buffers of an open image with their records, and walks its chain.
+fn note(records: &[u8], g: Sheet) -> Begun
+    requires { ⌜ Open (g .count * g .chunk) (length (now records)) g ⌝ }
+    ensures start { λ r. ⌜ r .start ≡ started g (now (records .entry)) ⌝ }
+    ensures pairs { λ r. ⌜ Paired (now (records .entry)) (g .heap) (g .chunk) (g .count) (r .pairs) ⌝ }
+    ensures marks { λ r. ⌜ r .marks ≡ marksOf 512 (imageChain g (now (records .entry)) .met) ⌝ }
+{
+    let mut pairs = [0u16; 512];
+    pairing::pair(records, g.records, g.heap, g.chunk, g.count, &mut pairs);
+    let mut marks = [0u8; 512];
+    let walked = chain::walk_from(records, g.records, g.count, g.head, &mut marks);
+    let met = walked.met;
+    let ending = walked.ending;
+    let start = Start {
+        sheet: g,
+        count: g.count,
+        met,
+        ending,
+        answer: Inspected::Count(g.count),
+    };
+    Begun {
+        start,
+        pairs,
+        marks,
+    }
+}
+
+// Opens an image, and readies all that its buffers are judged by, for a lent row of so many findings.
+fn begin(sheet: &[u8], heap: &[u8], records: &[u8], rows: usize) -> Begun
+    ensures { λ r. ⌜ Begins (now (sheet .entry)) (now (heap .entry)) (now (records .entry)) rows r ⌝ }
+{
+    let opened = sheet::open(sheet, heap.len(), records.len());
+    match opened {
+        Opened::Refused(why) => refuse(why),
+        Opened::Image(g) => {
+            if rows < g.count {
+                return refuse(Refusal::ShortOutput);
+            }
+            note(records, g)
+        }
+    }
+}
+
+// The finding of buffer i.
+fn find<'a>(
+    heap: &[u8],
+    start: Start,
+    pairs: &'a [u16; 512],
+    marks: &'a [u8; 512],
+    i: usize,
+) -> Finding
+    requires { ⌜ Ready (length (now heap)) start (now pairs) ⌝ }
+    requires { ⌜ i < start .count ⌝ }
+    ensures { λ r. ⌜ r ≡ foundBy (now (heap .entry)) start (now (pairs .entry)) (now (marks .entry)) i ⌝ }
+{
+    let own = pairing::own_record(pairs, i);
+    let g = start.sheet;
+    let ending = start.ending;
+    let verdict = judge::judge_buffer(heap, g, i, own, marks, ending);
+    Finding { index: i, verdict }
+}
+
+// Fills a lent row of findings, one for each buffer, or refuses and leaves it as it was. Rows past the last buffer stay.
+pub fn inspect(sheet: &[u8], heap: &[u8], records: &[u8], rows: &mut [Finding]) -> Inspected
+    ensures answer { λ r. ⌜ r ≡ inspectOf (now (sheet .entry)) (now (heap .entry)) (now (records .entry)) (now (rows .entry)) .answer ⌝ }
+    ensures rows { λ _. ⌜ now (rows .exit) ≡ inspectOf (now (sheet .entry)) (now (heap .entry)) (now (records .entry)) (now (rows .entry)) .rows ⌝ }
+{
+    let begun = begin(sheet, heap, records, rows.len());
+    let start = begun.start;
+    let pairs = begun.pairs;
+    let marks = begun.marks;
+    let n = start.count;
+    let mut i = 0;
+    while i < n {
+        rows[i] = find(heap, start, &pairs, &marks, i);
+        i += 1;
+    }
+    start.answer
+}
+
+// Writes the numbers of a finding.
+fn put_row(rows: &mut [u32], f: Finding)
+    requires { ⌜ f .index < 512 ⌝ }
+    requires { ⌜ f .index * 3 + 3 ≤ length (now rows) ⌝ }
+    ensures { λ _. ⌜ now (rows .exit) ≡ sets (now (rows .entry)) (f .index * 3) (numbersOf f) ⌝ }
+{
+    let i = f.index;
+    let v = f.verdict;
     let at = i * 3;
     rows[at] = i as u32;
     rows[at + 1] = verdict::number(v);
     rows[at + 2] = verdict::value(v);
 }
 
-// Judges every buffer and writes its row, given the pairing's marks, the chain's marks and the chain's ending.
-fn judge_rows(
+// Judges every buffer and writes its numbers.
+fn judge_rows<'a>(
     heap: &[u8],
-    g: Sheet,
-    pairs: &[u16; 512],
-    marks: &[u8; 512],
-    ending: Ending,
+    start: Start,
+    pairs: &'a [u16; 512],
+    marks: &'a [u8; 512],
     rows: &mut [u32],
 )
-    requires { ⌜ Lawful g ⌝ }
-    requires { ⌜ length (now heap) ≡ heapLength g ⌝ }
-    requires { ⌜ PairedIn (g .count) (now pairs) ⌝ }
-    requires { ⌜ g .count * 3 ≤ length (now rows) ⌝ }
+    requires { ⌜ Ready (length (now heap)) start (now pairs) ⌝ }
+    requires { ⌜ start .count * 3 ≤ length (now rows) ⌝ }
     ensures { λ _. ⌜ now (rows .exit)
-        ≡ sets (now (rows .entry)) 0 (rowsOf (judgedBy (now (heap .entry)) g (now (pairs .entry)) (now (marks .entry)) ending) (g .count)) ⌝ }
+        ≡ sets (now (rows .entry)) 0 (rowsOf (foundBy (now (heap .entry)) start (now (pairs .entry)) (now (marks .entry))) (start .count)) ⌝ }
 {
-    let n = g.count;
+    let n = start.count;
     let mut i = 0;
     while i < n {
-        let own = pairing::own_record(pairs, i);
-        put_row(rows, i, judge::judge_buffer(heap, g, i, own, marks, ending));
+        put_row(rows, find(heap, start, pairs, marks, i));
         i += 1;
     }
 }
 
-// Judges every buffer of an open image, writes the rows, and answers the chain.
-fn survey_open(heap: &[u8], records: &[u8], g: Sheet, rows: &mut [u32]) -> Walked
+// Judges every buffer of an open image, writes the numbers, and answers what the judging started from.
+fn survey_open(heap: &[u8], records: &[u8], g: Sheet, rows: &mut [u32]) -> Start
     requires { ⌜ Open (length (now heap)) (length (now records)) g ⌝ }
     requires { ⌜ g .count * 3 ≤ length (now rows) ⌝ }
-    ensures rows { λ _. ⌜ now (rows .exit) ≡ sets (now (rows .entry)) 0 (findingsOf g (now (heap .entry)) (now (records .entry))) ⌝ }
-    ensures met { λ r. ⌜ r .met ≡ length (imageChain g (now (records .entry)) .met) ⌝ }
-    ensures ending { λ r. ⌜ r .ending ≡ imageChain g (now (records .entry)) .ending ⌝ }
+    ensures rows { λ _. ⌜ now (rows .exit) ≡ sets (now (rows .entry)) 0 (tableOf g (now (heap .entry)) (now (records .entry))) ⌝ }
+    ensures start { λ r. ⌜ r ≡ started g (now (records .entry)) ⌝ }
 {
-    let mut pairs = [0u16; 512];
-    pairing::pair(records, g.records, g.heap, g.chunk, g.count, &mut pairs);
-    let mut marks = [0u8; 512];
-    let walked = chain::walk_from(records, g.records, g.count, g.head, &mut marks);
-    let ending = walked.ending;
-    judge_rows(heap, g, &pairs, &marks, ending, rows);
-    walked
+    let begun = note(records, g);
+    let start = begun.start;
+    let pairs = begun.pairs;
+    let marks = begun.marks;
+    judge_rows(heap, start, &pairs, &marks, rows);
+    start
 }
 
 // Fills a lent row of numbers, three for each buffer, or refuses and leaves it as it was.
-pub fn inspect(sheet: &[u8], heap: &[u8], records: &[u8], rows: &mut [u32]) -> Inspected
-    ensures answer { λ r. ⌜ r ≡ inspectOf (now (sheet .entry)) (now (heap .entry)) (now (records .entry)) (now (rows .entry)) .answer ⌝ }
-    ensures rows { λ _. ⌜ now (rows .exit) ≡ inspectOf (now (sheet .entry)) (now (heap .entry)) (now (records .entry)) (now (rows .entry)) .rows ⌝ }
+pub fn tabulate(sheet: &[u8], heap: &[u8], records: &[u8], rows: &mut [u32]) -> Inspected
+    ensures answer { λ r. ⌜ r ≡ tabulateOf (now (sheet .entry)) (now (heap .entry)) (now (records .entry)) (now (rows .entry)) .answer ⌝ }
+    ensures rows { λ _. ⌜ now (rows .exit) ≡ tabulateOf (now (sheet .entry)) (now (heap .entry)) (now (records .entry)) (now (rows .entry)) .rows ⌝ }
     ensures small { λ r. ⌜ InspectedIf r ⌝ }
 {
     let opened = sheet::open(sheet, heap.len(), records.len());
@@ -113,7 +240,7 @@ pub fn inspect(sheet: &[u8], heap: &[u8], records: &[u8], rows: &mut [u32]) -> I
     }
 }
 
-// Fills a lent row of numbers as `inspect` does, of an image with a log, and tells of the chain too.
+// Fills a lent row of numbers as `tabulate` does, of an image with a log, and tells of the chain too.
 pub fn survey(sheet: &[u8], heap: &[u8], records: &[u8], log: &[u8], rows: &mut [u32]) -> Surveyed
     ensures answer { λ r. ⌜ r
         ≡ surveyOf (now (sheet .entry)) (now (heap .entry)) (now (records .entry)) (length (now (log .entry))) (now (rows .entry)) .answer ⌝ }
@@ -129,9 +256,9 @@ pub fn survey(sheet: &[u8], heap: &[u8], records: &[u8], log: &[u8], rows: &mut 
             if rows.len() < n * 3 {
                 return Surveyed::Refused(Refusal::ShortOutput);
             }
-            let walked = survey_open(heap, records, g, rows);
-            let met = walked.met;
-            let ending = walked.ending;
+            let start = survey_open(heap, records, g, rows);
+            let met = start.met;
+            let ending = start.ending;
             Surveyed::Image(Overview {
                 count: n,
                 met,

@@ -14,7 +14,7 @@ use Rattle.words.specs.Run.{pick}
 use Rattle.tags.specs.Verdict.{verdictNumber, verdictValue}
 use Rattle.area.specs.Sheet.{openedWithLog, onOpened}
 use Rattle.verdicts.specs.Judge.{verdictOf, imageChain}
-use Rattle.image.specs.Inspect.{findingsOf, surveyed, Surveying, surveyOf}
+use Rattle.image.specs.Inspect.{tableOf, surveyed, Surveying, surveyOf}
 use Rattle.area.specs.declared.sheet.Sheet.{Sheet}
 use Rattle.area.specs.declared.sheet.Opened.{Opened}
 use Rattle.image.specs.declared.inspect.Overview.{Overview}
@@ -43,11 +43,11 @@ module _ (f g u v : ℕ → ℕ) where
 
 -- the text of the rows that a survey leaves is the text of the image
 pub rows-text : (g : Sheet) (heap records rows : List ℕ) → g .count * 3 ≤ length rows →
-    let r = sets rows 0 (findingsOf g heap records) in
+    let r = sets rows 0 (tableOf g heap records) in
     textOf (rowNumber r) (rowValue r) (g .count) (length (imageChain g records .met)) (imageChain g records .ending) ≡ reportText g heap records
 unfolding textOf reportText
 rows-text g heap records rows room =
-    let r = sets rows 0 (findingsOf g heap records) in
+    let r = sets rows 0 (tableOf g heap records) in
     let number : (i : ℕ) → i < g .count → rowNumber r i ≡ verdictNumber (verdictOf g heap records i) = (λ i h. at i 1 ∙ finding g heap records rows room i h 1 (omega arith)) in
     let value : (i : ℕ) → i < g .count → rowValue r i ≡ verdictValue (verdictOf g heap records i) = (λ i h. at i 2 ∙ finding g heap records rows room i h 2 (omega arith)) in
     rw (
@@ -55,14 +55,14 @@ rows-text g heap records rows room =
       faults-same (rowNumber r) (λ i. verdictNumber (verdictOf g heap records i)) (rowValue r) (λ i. verdictValue (verdictOf g heap records i)) (g .count) number,
     )
   where
-    at : (i k : ℕ) → getD (sets rows 0 (findingsOf g heap records)) (3 * i + k) 0 ≡ getD (sets rows 0 (findingsOf g heap records)) (i * 3 + k) 0
-    at i k = ap (λ (x : ℕ). getD (sets rows 0 (findingsOf g heap records)) (x + k) 0) (mul-comm 3 i)
+    at : (i k : ℕ) → getD (sets rows 0 (tableOf g heap records)) (3 * i + k) 0 ≡ getD (sets rows 0 (tableOf g heap records)) (i * 3 + k) 0
+    at i k = ap (λ (x : ℕ). getD (sets rows 0 (tableOf g heap records)) (x + k) 0) (mul-comm 3 i)
 
 -- ---- a row for 512 buffers is long enough
 
 -- what a survey tells of an image that is open, or not
 abbrev pub surveyFrom : Opened → List ℕ → List ℕ → List ℕ → Surveying
-surveyFrom (opened.Image g) heap records rows = record { answer = surveys.Image (surveyed g records); rows = sets rows 0 (findingsOf g heap records) }
+surveyFrom (opened.Image g) heap records rows = record { answer = surveys.Image (surveyed g records); rows = sets rows 0 (tableOf g heap records) }
 surveyFrom (opened.Refused why) heap records rows = record { answer = surveys.Refused why; rows = rows }
 
 pub survey-long : (s heap records : List ℕ) (l : ℕ) (rows : List ℕ) → 1536 ≤ length rows
@@ -73,7 +73,7 @@ survey-long s heap records l rows long = go (openedWithLog s (length heap) (leng
     go : (o : Opened) → openedWithLog s (length heap) (length records) l ≡ o
         → onOpened {A = Surveying} o
         (λ g. pick (leb (g .count * 3) (length rows))
-        (record { answer = surveys.Image (surveyed g records); rows = sets rows 0 (findingsOf g heap records) })
+        (record { answer = surveys.Image (surveyed g records); rows = sets rows 0 (tableOf g heap records) })
         (record { answer = surveys.Refused ShortOutput; rows = rows }))
         (λ why. record { answer = surveys.Refused why; rows = rows })
         ≡ surveyFrom o heap records rows

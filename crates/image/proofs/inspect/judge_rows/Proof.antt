@@ -1,43 +1,37 @@
--- The loop's invariant: the rows of the buffers passed are written. Assumes nothing.
+-- The loop's invariant: the numbers of the buffers passed are written. Assumes nothing.
 use mathlib.Core.Path.{_≡_, refl, sym, ap, _∙_, subst}
-use Prim.Native.Nat.{ℕ, _≤_, _-_, _*_}
+use Prim.Native.Nat.{ℕ, _≤_, _<_, _+_, _-_, _*_}
 use native.Mathlib.Omega.{arith}
 use borrow.Author.Needs.{needs}
 use lib.Seq.{sets}
 use lib.ListN.{length}
 use Rattle.image.proofs.Findings.{rows-none, rows-more}
-use Rattle.verdicts.specs.declared.pairing.Own.{Own}
-use Rattle.verdicts.specs.Judge.{judged, marked}
-use Rattle.image.specs.Inspect.{rowsOf, rowOf, judgedBy}
-use Rattle.verdicts.specs.Pairing.{OwnIf}
-use Rattle.tags.specs.declared.verdict.Verdict.{Verdict}
+use Rattle.image.specs.Inspect.{rowsOf, numbersOf, foundBy}
+use Rattle.image.specs.declared.inspect.Finding.{Finding}
 use Rattle.words.proofs.Laws.{below}
 use Rattle.image.proofs.inspect.judge_rows.Statement.{statement}
 use Rattle.image.proofs.inspect.judge_rows.Tie as tie
 
 abbrev Inv-loop : tie.InvT-loop
-Inv-loop heap g pairs marks ending rows₀ n i₀ rows i = (i ≤ g .count) × (length rows ≡ length rows₀) × (rows ≡ sets rows₀ 0 (rowsOf (judgedBy heap g pairs marks ending) i))
+Inv-loop heap start pairs marks rows₀ n i₀ rows i = (i ≤ start .count) × (length rows ≡ length rows₀) × (rows ≡ sets rows₀ 0 (rowsOf (foundBy heap start pairs marks) i))
 
 abbrev μ-loop : tie.MeasureT-loop
-μ-loop heap g pairs marks ending rows₀ n i₀ rows i = g .count - i
+μ-loop heap start pairs marks rows₀ n i₀ rows i = start .count - i
 
 loop-holds : tie.Need-loop-holds Inv-loop μ-loop
 loop-holds c = (omega arith, refl, rows-none _ _)
 
-own-record-requires : tie.Need-own-record-requires Inv-loop μ-loop
-own-record-requires c κs = let p = c .before .before .before .before .pre in omega arith
-
-judge-buffer-requires : tie.Need-judge-buffer-requires Inv-loop μ-loop
-judge-buffer-requires c κs =
-    let p = c .before .before .before .before .before .before .pre in
-    (p .0, (p .1 .0, (search needs, subst (OwnIf _) (sym (c .before .own-record .ensures)) (p .1 .1 .0 _ (search needs)))))
+find-requires : tie.Need-find-requires Inv-loop μ-loop
+find-requires c κs = (c .before .before .before .before .before .pre .0, search needs)
 
 put-row-requires : tie.Need-put-row-requires Inv-loop μ-loop
 put-row-requires c κs =
-    let p = c .before .before .before .before .before .before .before .pre in
-    let b = below 3 (c .before .before .before .loop-test .taken) in
-    let f = p .0 .few in
-    omega arith
+    let p = c .before .before .before .before .before .before .pre in
+    let t = below 3 (c .before .before .loop-test .taken) in
+    let few = p .0 .law .few in
+    let all = p .0 .all in
+    let e : c .find .result .index ≡ c .before .before .before .loop .i = ap (λ (f : Finding). f .index) (c .find .ensures) in
+    subst (λ (k : ℕ). (k < 512) × (k * 3 + 3 ≤ length (c .before .before .before .loop .rows))) (sym e) (omega arith, omega arith)
 
 add-i : tie.Need-add-i Inv-loop μ-loop
 add-i c = search needs
@@ -47,10 +41,8 @@ loop-less c = search needs
 
 loop-again : tie.Need-loop-again Inv-loop μ-loop
 loop-again c =
-    let l = c .before .before .before .before .before .before .before in
-    let a = l .before .before .before .args in
-    let j = c .before .before .before .judge-buffer .ensures ∙ ap (λ (o : Own). judged (a .heap .now) (a .g) (l .loop .i) o (marked (a .marks .now)) (a .ending)) (c .before .before .before .before .before .own-record .ensures) in
-    (search needs, search needs, rows-more _ _ _ _ _ (l .loop .inv .2) (c .before .before .put-row .ensures ∙ ap (λ (v : Verdict). sets (l .loop .rows) (l .loop .i * 3) (rowOf (l .loop .i) v)) j))
+    let l = c .before .before .before .before .before .before in
+    (search needs, search needs, rows-more _ _ _ _ _ (l .loop .inv .2) (c .before .before .put-row .ensures ∙ ap (λ (f : Finding). sets (l .loop .rows) (f .index * 3) (numbersOf f)) (c .before .before .before .find .ensures)))
 
 same-length : tie.Need-same-length Inv-loop μ-loop
 same-length c = search needs
@@ -58,8 +50,8 @@ same-length c = search needs
 returns : tie.Need-returns Inv-loop μ-loop
 returns c =
     let a = c .before .before .before .before .args in
-    let e : c .before .loop .i ≡ a .g .count = omega arith in
-    subst (λ (k : ℕ). c .before .loop .rows ≡ sets (a .rows .now) 0 (rowsOf (judgedBy (a .heap .now) (a .g) (a .pairs .now) (a .marks .now) (a .ending)) k)) e (c .before .loop .inv .2)
+    let e : c .before .loop .i ≡ a .start .count = omega arith in
+    subst (λ (k : ℕ). c .before .loop .rows ≡ sets (a .rows .now) 0 (rowsOf (foundBy (a .heap .now) (a .start) (a .pairs .now) (a .marks .now)) k)) e (c .before .loop .inv .2)
 
 pub judge-rows-spec : {M : Type 1} → statement M
 judge-rows-spec =
@@ -68,8 +60,7 @@ judge-rows-spec =
     Inv-loop
     μ-loop
     loop-holds
-    own-record-requires
-    judge-buffer-requires
+    find-requires
     put-row-requires
     add-i
     loop-less

@@ -1,11 +1,12 @@
 -- An image that is refused, or a row that is too short, leaves the row; else the rows and the chain are those of the image. Assumes nothing.
-use mathlib.Core.Path.{refl, subst}
+use mathlib.Core.Path.{refl, ap, subst}
 use native.Mathlib.Omega.{arith}
 use borrow.Author.Tests.{le-leb, lt-leb}
 use borrow.Author.Needs.{needs}
 use lib.ListN.{length}
 use Rattle.image.proofs.Findings.{survey-small}
 use Rattle.image.specs.Inspect.{surveyOf}
+use Rattle.image.specs.declared.inspect.Start.{Start}
 use Rattle.area.specs.Sheet.{Open, LoggedIf}
 use Rattle.image.proofs.inspect.survey.Statement.{statement}
 use Rattle.image.proofs.inspect.survey.Tie as tie
@@ -48,8 +49,10 @@ returns-3 c =
     let o = c .before .before .before .before .before .before in
     let records = o .before .before .before .before .before .before .before .before .args .records .now in
     let s = c .before .before .survey-open .ensures in
+    let m = ap (λ (x : Start). x .met) (s .1) in
+    let e = ap (λ (x : Start). x .ending) (s .1) in
     rw (← o .before .before .open-with-log .ensures .0, o .opened2 .given .1, le-leb _ _ (c .before .before .before .before .if1 .left))
-    (rw (s .1 .0, s .1 .1) refl, (s .0, survey-small (o .opened2 .given .0 .0) records _ _ (known o .law) (s .1 .0) (s .1 .1)))
+    (rw (m, e) refl, (s .0, survey-small (o .opened2 .given .0 .0) records _ _ (known o .law) m e))
 
 pub survey-spec : {M : Type 1} → statement M
 survey-spec =

@@ -1,22 +1,25 @@
--- The pairing and the walk leave marks, and the rows are judged by them. Assumes nothing.
-use mathlib.Core.Path.{refl, ap, _∙_}
-use native.Mathlib.Omega.{arith}
+-- The buffers are judged by what is noted of the image. Assumes nothing.
+use mathlib.Core.Path.{sym, ap, _∙_, subst}
+use Prim.Native.Nat.{_≤_, _*_}
 use borrow.Author.Needs.{needs}
+use lib.ListN.{length}
 use lib.Seq.{sets}
-use Rattle.image.proofs.Findings.{paired-in, judged-is}
+use Rattle.image.specs.Inspect.{rowsOf, foundBy, Ready}
+use Rattle.image.specs.declared.inspect.Start.{Start}
+use Rattle.image.proofs.Findings.{ready, table-is}
 use Rattle.image.proofs.inspect.survey_open.Statement.{statement}
 use Rattle.image.proofs.inspect.survey_open.Tie as tie
 
-pair-requires : tie.Need-pair-requires
-pair-requires c κs = let o = c .before .before .before .before .pre .0 in let l = o .law in (omega arith, (l .recordsFit, (l .few, (omega arith, refl))))
-
-walk-from-requires : tie.Need-walk-from-requires
-walk-from-requires c κs = search needs
+note-requires : tie.Need-note-requires
+note-requires c κs = search needs
 
 judge-rows-requires : tie.Need-judge-rows-requires
 judge-rows-requires c κs =
     let s = c .before .before .before .before .before .before .before .before .before .before in
-    (s .pre .0 .law, (s .pre .0 .heapLong, (paired-in (s .args .records .now) (s .args .g .heap) (s .args .g .chunk) (s .args .g .count) (c .before .before .before .before .before .pair .last .1 .1 .1 .1 .1 .0) (c .before .before .before .before .before .pair .ensures), s .pre .1)))
+    let a = s .args in
+    let n = c .before .before .before .before .before .before .note in
+    subst (λ (x : Start). Ready (length (a .heap .now)) x (n .result .pairs) × (x .count * 3 ≤ length (a .rows .now))) (sym (n .ensures .0))
+    (ready (length (a .heap .now)) (a .g) (a .records .now) (n .result .pairs) (s .pre .0) (n .ensures .1 .0), s .pre .1)
 
 same-length : tie.Need-same-length
 same-length c = search needs
@@ -24,10 +27,13 @@ same-length c = search needs
 returns : tie.Need-returns
 returns c =
     let s = c .before .before .before .before .before .before .before .before .before .before .before .before .before in
-    let w = c .before .before .before .before .before .before .walk-from .ensures in
-    let p = c .before .before .before .before .before .before .before .before .pair .ensures in
-    (c .before .before .judge-rows .ensures ∙ ap (sets (s .args .rows .now) 0) (judged-is (s .args .g) (s .args .heap .now) (s .args .records .now) (c .before .before .before .before .before .before .before .before .pair .last .1 .1 .1 .1 .1 .0) _ _ (s .pre .0 .law .few) p (w .1 .0) (w .1 .1)), (w .0, w .1 .0))
+    let a = s .args in
+    let n = c .before .before .before .before .before .before .before .before .before .note in (
+      c .before .before .judge-rows .ensures
+          ∙ ap (λ (x : Start). sets (a .rows .now) 0 (rowsOf (foundBy (a .heap .now) x (n .result .pairs) (n .result .marks)) (x .count))) (n .ensures .0)
+          ∙ ap (sets (a .rows .now) 0) (table-is (a .g) (a .heap .now) (a .records .now) (n .result .pairs) (n .result .marks) (s .pre .0 .law .few) (n .ensures .1 .0) (n .ensures .1 .1)),
+      n .ensures .0,
+    )
 
 pub survey-open-spec : {M : Type 1} → statement M
-survey-open-spec =
-    tie.close (tie.spec pair-requires walk-from-requires judge-rows-requires same-length returns)
+survey-open-spec = tie.close (tie.spec note-requires judge-rows-requires same-length returns)
