@@ -1,5 +1,3 @@
 pub mod Places
 pub mod Sheets
 pub mod Records
-mod Windows
-mod Apart

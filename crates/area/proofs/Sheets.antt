@@ -13,7 +13,7 @@ use lib.Dec.{eqb, leb}
 use Rattle.words.specs.Word.{part}
 use Rattle.words.specs.Run.{pick}
 use Rattle.words.proofs.Laws.{below, length-part, part-back}
-use Rattle.tags.specs.Chunk.{ChunkLength, bufferSize}
+use Rattle.chunks.specs.Chunk.{ChunkLength, bufferSize}
 use Rattle.tags.proofs.Laws.{and-true}
 use Rattle.area.specs.Record.{recordSize}
 use Rattle.area.specs.Sheet.{fields, fieldsFrom, shaped, sheetOf, lengthsRight, measured, numbered, openedOf, openedWithLog, onOpened, logRight, sizesLawful, basesLawful, lawful, Lawful, heapLength, recordsLength}

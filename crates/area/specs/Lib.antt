@@ -3,4 +3,3 @@ pub mod Place
 pub mod Record
 pub mod Sheet
 pub mod Areas
-pub mod Window

@@ -15,6 +15,3 @@ pub mod place;
 
 // The words of a record.
 pub mod record;
-
-// Words and bytes at an address.
-pub mod window;

@@ -6,8 +6,7 @@ ghost use lib.ListN.{length};
 ghost use Rattle.words.specs.Word.{numberAt};
 ghost use Rattle.area.specs.Record.{recordSize, recordWord};
 ghost use Rattle.area.specs.Areas.{stamped};
-use crate::window;
-use crate::window::Word;
+use window::Word;
 use words::word;
 
 pub const SIZE: usize = 96;

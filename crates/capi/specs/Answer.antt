@@ -1,20 +1,20 @@
 -- One number for each answer: bits 0 to 7 the refusal's number, 8 to 15 its detail, 32 to 63 the value. Assumes nothing.
 use mathlib.Core.Bool.{Bool, true, false}
 use Prim.Native.Nat.{ℕ, _+_, _*_}
-use Rattle.tags.specs.declared.chunk.Grant.{Grant}
-use Rattle.tags.specs.declared.chunk.Grant.the-variants.{Whole, Sized}
+use Rattle.chunks.specs.declared.chunk.Grant.{Grant}
+use Rattle.chunks.specs.declared.chunk.Grant.the-variants.{Whole, Sized}
 use Rattle.area.specs.Refusal.{refusalNumber, refusalDetail}
 use Rattle.area.specs.declared.refusal.Refusal.{Refusal}
 use Rattle.area.specs.declared.refusal.Outcome.{Outcome}
 use Rattle.area.specs.declared.refusal.Outcome.the-variants as outcome
 use Rattle.image.specs.declared.inspect.Inspected.{Inspected}
 use Rattle.image.specs.declared.inspect.Inspected.the-variants as inspected
-use Rattle.image.specs.declared.latest.Transaction.{Transaction}
-use Rattle.image.specs.declared.latest.Transaction.the-variants as transaction
-use Rattle.heap.specs.declared.allocate.Allocated.{Allocated}
-use Rattle.heap.specs.declared.allocate.Allocated.the-variants as allocated
-use Rattle.heap.specs.declared.show.Shown.{Shown}
-use Rattle.heap.specs.declared.show.Shown.the-variants as shown
+use Rattle.transactions.specs.declared.latest.Transaction.{Transaction}
+use Rattle.transactions.specs.declared.latest.Transaction.the-variants as transaction
+use Rattle.allocation.specs.declared.allocate.Allocated.{Allocated}
+use Rattle.allocation.specs.declared.allocate.Allocated.the-variants as allocated
+use Rattle.holding.specs.declared.show.Shown.{Shown}
+use Rattle.holding.specs.declared.show.Shown.the-variants as shown
 use Rattle.report.specs.declared.answer.Reported.{Reported}
 use Rattle.report.specs.declared.answer.Reported.the-variants as reported
 

@@ -1,10 +1,10 @@
 // The one number that every function returns.
 ghost use mathlib.Core.Path.{_≡_};
 ghost use Rattle.capi.specs.Answer.{acceptedWord, refusedWord, outcomeWord, allocateWord};
+use allocation::allocate::Allocated;
 use area::refusal;
 use area::refusal::Outcome;
 use area::refusal::Refusal;
-use heap::allocate::Allocated;
 
 // What an accepted call returns.
 pub(crate) fn accepted(value: u32) -> u64

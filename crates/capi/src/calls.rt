@@ -2,18 +2,18 @@
 ghost use mathlib.Core.Path.{_≡_};
 ghost use Rattle.area.specs.Areas.{areas};
 ghost use Rattle.layout.specs.Layout.{layOutOf};
-ghost use Rattle.heap.specs.Allocate.{allocateOf};
-ghost use Rattle.heap.specs.Free.{freeOf};
-ghost use Rattle.heap.specs.Store.{storeOf};
-ghost use Rattle.heap.specs.Show.{shownOf};
+ghost use Rattle.allocation.specs.Allocate.{allocateOf};
+ghost use Rattle.holding.specs.Free.{freeOf};
+ghost use Rattle.holding.specs.Store.{storeOf};
+ghost use Rattle.holding.specs.Show.{shownOf};
 ghost use Rattle.capi.specs.Answer.{grantOf, outcomeWord, allocateWord, showWord};
 use crate::answer;
-use heap::allocate;
-use heap::free;
-use heap::show;
-use heap::show::Shown;
-use heap::store;
-use tags::chunk::Grant;
+use allocation::allocate;
+use chunks::chunk::Grant;
+use holding::free;
+use holding::show;
+use holding::show::Shown;
+use holding::store;
 
 // What is asked for: where it is the whole buffer, the size is not read.
 fn grant(whole: bool, size: u32) -> Grant

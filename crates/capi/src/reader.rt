@@ -2,17 +2,17 @@
 ghost use mathlib.Core.Path.{_≡_};
 ghost use lib.ListN.{length};
 ghost use Rattle.image.specs.Inspect.{tabulateOf};
-ghost use Rattle.image.specs.Latest.{latestOf};
+ghost use Rattle.transactions.specs.Latest.{latestOf};
 ghost use Rattle.report.specs.Answer.{reportOf};
 ghost use Rattle.capi.specs.Answer.{inspectWord, latestWord, reportWord};
 use crate::answer::accepted;
 use crate::answer::refused;
 use image::inspect;
 use image::inspect::Inspected;
-use image::latest;
-use image::latest::Transaction;
 use report::answer;
 use report::answer::Reported;
+use transactions::latest;
+use transactions::latest::Transaction;
 
 // Fills three numbers for each buffer: index, verdict number, size or offset. The value is the number of buffers.
 #[no_mangle]

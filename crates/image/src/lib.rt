@@ -1,10 +1,7 @@
-// What is read off one cache's image: the findings of all buffers, and the latest transaction of one.
+// The findings of an image.
 //
-// The layer promises: every call opens the image by the same tests, 1, 2 and 3, and refuses what they refuse; each finding is
-// the verdict of the layer below.
+// The layer promises: an image is opened by the tests 1, 2 and 3, and refused where they refuse it; each finding is the verdict
+// of the layer below.
 
 // The findings of all buffers.
 pub mod inspect;
-
-// The latest transaction of a buffer.
-pub mod latest;

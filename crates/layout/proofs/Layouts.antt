@@ -14,8 +14,8 @@ use lib.Seq.{sets}
 use Rattle.words.specs.Word.{part, bytesOf}
 use Rattle.words.specs.Run.{pick, repeated}
 use Rattle.words.proofs.Laws.{part-left, part-right, part-all, sets-next, sets-three, sets-whole, length-bytesOf, below}
-use Rattle.tags.specs.Chunk.{freeChunk}
-use Rattle.tags.proofs.Laws.{length-freeChunk}
+use Rattle.chunks.specs.Chunk.{freeChunk}
+use Rattle.chunks.proofs.Chunks.{length-freeChunk}
 use Rattle.area.specs.Areas.{Areas, Result, refusedWith, bufferAddress, recordAddress}
 use Rattle.area.specs.Record.{recordSize}
 use Rattle.area.specs.Sheet.{lawful, Lawful, lengthsRight, measured, numbered, onOpened, OpenedIf}

@@ -7,7 +7,7 @@ use lib.Dec.{eqb, ltb}
 use lib.ListN.{length, replicate}
 use Rattle.words.specs.Word.{bytesOf}
 use Rattle.words.specs.Run.{pick}
-use Rattle.tags.specs.Chunk.{freeChunk}
+use Rattle.chunks.specs.Chunk.{freeChunk}
 use Rattle.area.specs.Areas.{Areas, Result, refusedWith, bufferAddress, recordAddress}
 use Rattle.area.specs.Sheet.{lawful, lengthsRight, numbered, Open}
 use Rattle.area.specs.declared.sheet.Sheet.{Sheet}

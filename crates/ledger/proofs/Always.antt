@@ -8,14 +8,14 @@ use native.Mathlib.Omega.{arith}
 use borrow.Author.Tests.{leb-true}
 use lib.Dec.{leb}
 use lib.ListN.{length}
-use Rattle.tags.specs.declared.chunk.Grant.{Grant}
+use Rattle.chunks.specs.declared.chunk.Grant.{Grant}
 use Rattle.area.specs.Place.{placeOf}
 use Rattle.area.specs.Record.{nextWord}
 use Rattle.area.specs.Areas.{bufferAddress, recordAddress}
 use Rattle.layout.specs.Layout.{laidAreas}
-use Rattle.heap.specs.Allocate.{lawfulSize}
-use Rattle.heap.specs.Free.{sameGrant}
-use Rattle.heap.specs.Store.{storedAreas}
+use Rattle.allocation.specs.Allocate.{lawfulSize}
+use Rattle.holding.specs.Free.{sameGrant}
+use Rattle.holding.specs.Store.{storedAreas}
 use Rattle.area.specs.declared.sheet.Sheet.{Sheet}
 use Rattle.area.specs.declared.place.Place.{Place}
 use Rattle.area.specs.declared.place.Place.the-variants as place

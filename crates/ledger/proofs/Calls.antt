@@ -11,25 +11,25 @@ use lib.Dec.{leb}
 use lib.ListN.{length}
 use Rattle.words.specs.Word.{part}
 use Rattle.words.proofs.Laws.{part-part}
-use Rattle.tags.specs.declared.chunk.Grant.{Grant}
-use Rattle.tags.specs.declared.chunk.Grant.the-variants as grant
+use Rattle.chunks.specs.declared.chunk.Grant.{Grant}
+use Rattle.chunks.specs.declared.chunk.Grant.the-variants as grant
 use Rattle.area.specs.Areas.{Areas, refusedWith, bufferAddress, recordAddress, chunkAt}
 use Rattle.area.specs.Place.{placeOf}
 use Rattle.area.specs.Record.{recordSize, addressWord}
-use Rattle.heap.specs.Allocate.{lawfulSize, takenChunk, takenHead, takenOf, allocatePlan, grantedAreas, allocateOf}
-use Rattle.heap.specs.Holding.{holding, heldAs, heldChunk, heldAt, heldOf, clientSize}
-use Rattle.heap.specs.Free.{sameGrant, freePlan, freedAreas, freeOf}
-use Rattle.heap.specs.Store.{storePlan, storedAreas, storeOf}
-use Rattle.heap.specs.Show.{shownOf}
+use Rattle.allocation.specs.Allocate.{lawfulSize, takenChunk, takenHead, takenOf, allocatePlan, grantedAreas, allocateOf}
+use Rattle.holding.specs.Holding.{holding, heldAs, heldChunk, heldAt, heldOf, clientSize}
+use Rattle.holding.specs.Free.{sameGrant, freePlan, freedAreas, freeOf}
+use Rattle.holding.specs.Store.{storePlan, storedAreas, storeOf}
+use Rattle.holding.specs.Show.{shownOf}
 use Rattle.area.specs.declared.sheet.Sheet.{Sheet}
 use Rattle.area.specs.declared.place.Place.the-variants as place
 use Rattle.area.specs.declared.refusal.Refusal.the-variants.{NoSuchBuffer, NoRoom, BadSize, NotAllocated, OtherGrant, PastClient}
 use Rattle.area.specs.declared.refusal.Outcome.the-variants as outcome
-use Rattle.heap.specs.declared.allocate.Spot.{Spot}
-use Rattle.heap.specs.declared.allocate.Allocated.the-variants as allocated
-use Rattle.heap.specs.declared.holding.Holding.{Holding}
-use Rattle.heap.specs.declared.holding.Held.the-variants as held
-use Rattle.heap.specs.declared.show.Shown.the-variants as shown
+use Rattle.allocation.specs.declared.allocate.Spot.{Spot}
+use Rattle.allocation.specs.declared.allocate.Allocated.the-variants as allocated
+use Rattle.holding.specs.declared.holding.Holding.{Holding}
+use Rattle.holding.specs.declared.holding.Held.the-variants as held
+use Rattle.holding.specs.declared.show.Shown.the-variants as shown
 use Rattle.area.proofs.Places.{place-at}
 use Rattle.verdicts.proofs.Chains.{occ-here}
 use Rattle.ledger.specs.Ledger.{Loan, headed, grantSize, asGranted}

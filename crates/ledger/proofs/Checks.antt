@@ -10,16 +10,16 @@ use Rattle.words.specs.Run.{repeated, differenceFrom}
 use Rattle.words.specs.Age.{ageOf}
 use Rattle.tags.specs.Tag.{stateWord, tagOf, patternOf, patternWord}
 use Rattle.tags.specs.SizeCode.{codeOf, decodedOf}
-use Rattle.tags.specs.Chunk.{chunkOf, freeChunk, grantedChunk, tagAt}
-use Rattle.tags.specs.Judge.{freeVerdict, allocatedVerdict, zoneVerdict, sizedVerdict}
+use Rattle.chunks.specs.Chunk.{chunkOf, freeChunk, grantedChunk, tagAt}
+use Rattle.chunks.specs.Judge.{freeVerdict, allocatedVerdict, zoneVerdict, sizedVerdict}
 use Rattle.tags.specs.Verdict.{verdictNumber, verdictValue}
-use Rattle.tags.specs.declared.chunk.Grant.the-variants as grant
+use Rattle.chunks.specs.declared.chunk.Grant.the-variants as grant
 use Rattle.area.specs.Areas.{stamped}
 use Rattle.area.specs.Sheet.{fieldIs, shaped, sheetOf, sizesLawful, basesLawful, lawful, measured, numbered, openedOf}
 use Rattle.area.specs.Place.{placeOf}
 use Rattle.area.specs.Record.{recordWord}
 use Rattle.layout.specs.Layout.{flat, linkTo, sheetBytes, recordBytes, laidAreas, layOutOf}
-use Rattle.heap.specs.Allocate.{takenChunk, takenHead, takenOf, allocatePlan, grantedAreas, allocateOf}
+use Rattle.allocation.specs.Allocate.{takenChunk, takenHead, takenOf, allocatePlan, grantedAreas, allocateOf}
 use Rattle.ledger.specs.Ledger.{allocate, resultOf, put, opened, run}
 use Rattle.ledger.specs.Checks.{freshAreas, refusedAs, chunkVerdict, Check, tagged, judged, aged, next, Holds, AllHold, checks, freeWith, allocatedWith}
 use Rattle.tags.proofs.Laws.{and-true}

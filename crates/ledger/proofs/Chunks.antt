@@ -17,13 +17,14 @@ use Rattle.words.specs.Run.{repeated}
 use Rattle.words.proofs.Laws.{getD-part, part-left, part-right, part-all, part-written, part-before, part-after, part-inside, length-bytesOf, number-bytesOf, numberAt-outside, length-repeated, repeated-more, repeated-once, same-nowhere}
 use Rattle.tags.specs.Tag.{tagOf, stateWord}
 use Rattle.tags.specs.SizeCode.{codeOf}
-use Rattle.tags.specs.Chunk.{redzone, freeFill, grantFill, guard, chunkOf, freeChunk, grantedChunk, tagAt, LawfulGrant}
-use Rattle.tags.specs.Judge.{freeVerdict, allocatedVerdict, sizedVerdict, zoneVerdict, zoneAfter}
-use Rattle.tags.proofs.Laws.{decode-code, length-chunkOf, length-freeChunk, length-grantedChunk}
+use Rattle.chunks.specs.Chunk.{redzone, freeFill, grantFill, guard, chunkOf, freeChunk, grantedChunk, tagAt, LawfulGrant}
+use Rattle.chunks.specs.Judge.{freeVerdict, allocatedVerdict, sizedVerdict, zoneVerdict, zoneAfter}
+use Rattle.tags.proofs.Laws.{decode-code}
+use Rattle.chunks.proofs.Chunks.{length-chunkOf, length-freeChunk, length-grantedChunk}
 use Rattle.tags.specs.declared.tag.State.{State}
 use Rattle.tags.specs.declared.tag.State.the-variants as state
-use Rattle.tags.specs.declared.chunk.Grant.{Grant}
-use Rattle.tags.specs.declared.chunk.Grant.the-variants as grant
+use Rattle.chunks.specs.declared.chunk.Grant.{Grant}
+use Rattle.chunks.specs.declared.chunk.Grant.the-variants as grant
 use Rattle.tags.specs.declared.verdict.Verdict.the-variants.{Free, Whole, Allocated}
 use Rattle.ledger.specs.Ledger.{Loan, grantSize, fresh, laidOver, asGranted}
 use Rattle.ledger.proofs.Runs.{sets-over, sets-same, part-repeated}

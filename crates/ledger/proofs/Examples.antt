@@ -8,21 +8,21 @@ use Rattle.words.specs.Word.{part, number, bytesOf, numberAt}
 use Rattle.words.specs.Run.{repeated, differenceFrom}
 use Rattle.tags.specs.Tag.{tagOf, patternWord, patternOf}
 use Rattle.tags.specs.SizeCode.{codeOf, decodedOf}
-use Rattle.tags.specs.Chunk.{grantFill, chunkOf, freeChunk, grantedChunk, tagAt}
-use Rattle.tags.specs.Judge.{freeVerdict, zoneVerdict, sizedVerdict, allocatedVerdict}
-use Rattle.tags.specs.declared.chunk.Grant.the-variants as grant
+use Rattle.chunks.specs.Chunk.{grantFill, chunkOf, freeChunk, grantedChunk, tagAt}
+use Rattle.chunks.specs.Judge.{freeVerdict, zoneVerdict, sizedVerdict, allocatedVerdict}
+use Rattle.chunks.specs.declared.chunk.Grant.the-variants as grant
 use Rattle.area.specs.Areas.{Areas, stamped}
 use Rattle.area.specs.Sheet.{fieldIs, shaped, sheetOf, sizesLawful, basesLawful, lawful, measured, numbered, openedOf}
 use Rattle.area.specs.Place.{placeOf}
 use Rattle.area.specs.Record.{recordWord}
 use Rattle.layout.specs.Layout.{flat, linkTo, sheetBytes, recordBytes, laidAreas, laidSheet, layOutOf}
-use Rattle.heap.specs.Allocate.{takenChunk, takenHead, takenOf, allocatePlan, grantedAreas, allocateOf}
-use Rattle.heap.specs.Holding.{heldChunk, heldAt, heldOf}
-use Rattle.heap.specs.Free.{freePlan, freedAreas, freeOf}
-use Rattle.heap.specs.Store.{storePlan, storedAreas, storeOf}
+use Rattle.allocation.specs.Allocate.{takenChunk, takenHead, takenOf, allocatePlan, grantedAreas, allocateOf}
+use Rattle.holding.specs.Holding.{heldChunk, heldAt, heldOf}
+use Rattle.holding.specs.Free.{freePlan, freedAreas, freeOf}
+use Rattle.holding.specs.Store.{storePlan, storedAreas, storeOf}
 use Rattle.area.specs.declared.refusal.Refusal.the-variants.{NoSuchBuffer, NoRoom, BadSize, OtherGrant}
 use Rattle.area.specs.declared.refusal.Outcome.the-variants as outcome
-use Rattle.heap.specs.declared.allocate.Allocated.the-variants as allocated
+use Rattle.allocation.specs.declared.allocate.Allocated.the-variants as allocated
 use Rattle.ledger.specs.Ledger.{Call, allocate, free, store, Answer, resultOf, put, World, opened, run, Sound}
 use Rattle.ledger.proofs.Theorem.{theorem}
 

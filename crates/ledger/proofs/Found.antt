@@ -10,11 +10,11 @@ use native.Mathlib.Omega.{arith}
 use borrow.Author.Tests.{eq-eqb, ne-eqb}
 use lib.Dec.{eqb}
 use Rattle.tags.specs.Tag.{tagOf, patternOf, statePattern}
-use Rattle.tags.specs.Chunk.{tagAt}
+use Rattle.chunks.specs.Chunk.{tagAt}
 use Rattle.tags.specs.Verdict.{verdictNumber}
 use Rattle.tags.specs.declared.tag.Tag.{Tag}
-use Rattle.tags.specs.declared.chunk.Grant.{Grant}
-use Rattle.tags.specs.declared.chunk.Grant.the-variants as grant
+use Rattle.chunks.specs.declared.chunk.Grant.{Grant}
+use Rattle.chunks.specs.declared.chunk.Grant.the-variants as grant
 use Rattle.tags.specs.declared.verdict.Verdict.{Verdict}
 use Rattle.tags.proofs.Laws.{tag-pattern}
 use Rattle.area.specs.Areas.{Areas, bufferAddress, recordAddress}

@@ -13,17 +13,18 @@ use lib.ListN.{length, length-append}
 use lib.Seq.{sets, length-sets}
 use Rattle.words.specs.Word.{part, number, bytesOf, numberAt}
 use Rattle.words.proofs.Laws.{length-bytesOf, part-written, part-inside, part-place, part-field, numberAt-written}
-use Rattle.tags.specs.Chunk.{LawfulGrant, freeChunk, grantedChunk}
-use Rattle.tags.proofs.Laws.{and-true, length-freeChunk, length-grantedChunk}
-use Rattle.tags.specs.declared.chunk.Grant.{Grant}
-use Rattle.tags.specs.declared.chunk.Grant.the-variants as grant
+use Rattle.chunks.specs.Chunk.{LawfulGrant, freeChunk, grantedChunk}
+use Rattle.tags.proofs.Laws.{and-true}
+use Rattle.chunks.proofs.Chunks.{length-freeChunk, length-grantedChunk}
+use Rattle.chunks.specs.declared.chunk.Grant.{Grant}
+use Rattle.chunks.specs.declared.chunk.Grant.the-variants as grant
 use Rattle.area.specs.Areas.{Areas, stamped, bufferAddress, recordAddress, chunkAt}
 use Rattle.area.specs.Record.{recordSize, recordWord, nextWord}
 use Rattle.verdicts.specs.Chain.{occ}
 use Rattle.verdicts.specs.Walk.{Linked}
-use Rattle.heap.specs.Allocate.{lawfulSize, grantedAreas}
-use Rattle.heap.specs.Free.{freedAreas}
-use Rattle.heap.specs.Store.{storedAreas}
+use Rattle.allocation.specs.Allocate.{lawfulSize, grantedAreas}
+use Rattle.holding.specs.Free.{freedAreas}
+use Rattle.holding.specs.Store.{storedAreas}
 use Rattle.area.specs.declared.sheet.Sheet.{Sheet}
 use Rattle.area.proofs.Sheets.{chunk-inside, record-inside}
 use Rattle.verdicts.proofs.Chains.{occ-cons, occ-here, occ-apart, linked-same}

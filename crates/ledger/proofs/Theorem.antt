@@ -9,20 +9,20 @@ use native.Mathlib.Decide.{decLt}
 use native.Mathlib.Omega.{arith}
 use Rattle.words.specs.Word.{part}
 use Rattle.tags.specs.Verdict.{verdictNumber}
-use Rattle.tags.specs.declared.chunk.Grant.{Grant}
+use Rattle.chunks.specs.declared.chunk.Grant.{Grant}
 use Rattle.area.specs.Areas.{Areas, Result, bufferAddress}
 use Rattle.verdicts.specs.Chain.{Chain, occ}
 use Rattle.verdicts.specs.Pairing.{ownOf}
 use Rattle.verdicts.specs.Judge.{imageChain, verdictOf}
 use Rattle.layout.specs.Layout.{laidSheet}
-use Rattle.heap.specs.Allocate.{lawfulSize, allocateOf}
-use Rattle.heap.specs.Show.{shownOf}
+use Rattle.allocation.specs.Allocate.{lawfulSize, allocateOf}
+use Rattle.holding.specs.Show.{shownOf}
 use Rattle.area.specs.declared.sheet.Sheet.{Sheet}
 use Rattle.verdicts.specs.declared.pairing.Own.the-variants.{One}
 use Rattle.area.specs.declared.refusal.Refusal.the-variants.{NoRoom}
-use Rattle.heap.specs.declared.allocate.Allocated.{Allocated}
-use Rattle.heap.specs.declared.allocate.Allocated.the-variants as allocated
-use Rattle.heap.specs.declared.show.Shown.the-variants as shown
+use Rattle.allocation.specs.declared.allocate.Allocated.{Allocated}
+use Rattle.allocation.specs.declared.allocate.Allocated.the-variants as allocated
+use Rattle.holding.specs.declared.show.Shown.the-variants as shown
 use Rattle.verdicts.proofs.Chains.{occ-none}
 use Rattle.ledger.specs.Ledger.{Loan, World, headed, timesMet, isOut, Sound, Claim}
 use Rattle.ledger.proofs.State.{Laid, outs, Holds, opens}

@@ -7,18 +7,18 @@ use lib.ListN.{replicate, set}
 use Rattle.words.specs.Run.{repeated}
 use Rattle.words.specs.Age.{ageOf}
 use Rattle.tags.specs.Tag.{stateWord, patternOf}
-use Rattle.tags.specs.Chunk.{redzone, freeFill, grantFill, guard, chunkOf, tagAt}
-use Rattle.tags.specs.Judge.{ofPattern}
+use Rattle.chunks.specs.Chunk.{redzone, freeFill, grantFill, guard, chunkOf, tagAt}
+use Rattle.chunks.specs.Judge.{ofPattern}
 use Rattle.tags.specs.Verdict.{verdictNumber, verdictValue}
 use Rattle.tags.specs.declared.verdict.Verdict.{Verdict}
 use Rattle.tags.specs.declared.tag.State.{State}
 use Rattle.tags.specs.declared.tag.State.the-variants as state
-use Rattle.tags.specs.declared.chunk.Grant.the-variants as grant
+use Rattle.chunks.specs.declared.chunk.Grant.the-variants as grant
 use Rattle.area.specs.Areas.{Areas, areas}
 use Rattle.area.specs.Refusal.{refusalNumber}
 use Rattle.layout.specs.Layout.{layOutOf}
-use Rattle.heap.specs.declared.allocate.Allocated.{Allocated}
-use Rattle.heap.specs.declared.allocate.Allocated.the-variants as allocated
+use Rattle.allocation.specs.declared.allocate.Allocated.{Allocated}
+use Rattle.allocation.specs.declared.allocate.Allocated.the-variants as allocated
 use Rattle.ledger.specs.Ledger.{Call, allocate, resultOf, opened, run}
 
 -- the verdict on a chunk by its own bytes: the rules of its tag's pattern

@@ -11,10 +11,10 @@ use lib.ListN.{length}
 use lib.Seq.{sets}
 use Rattle.words.specs.Word.{part}
 use Rattle.words.specs.Run.{pick, repeated}
-use Rattle.tags.specs.Chunk.{grantFill}
+use Rattle.chunks.specs.Chunk.{grantFill}
 use Rattle.tags.specs.Verdict.{verdictNumber}
-use Rattle.tags.specs.declared.chunk.Grant.{Grant}
-use Rattle.tags.specs.declared.chunk.Grant.the-variants as grant
+use Rattle.chunks.specs.declared.chunk.Grant.{Grant}
+use Rattle.chunks.specs.declared.chunk.Grant.the-variants as grant
 use Rattle.tags.specs.declared.verdict.Verdict.{Verdict}
 use Rattle.tags.specs.declared.verdict.Verdict.the-variants as verdict
 use Rattle.area.specs.Areas.{Areas, Result, bufferAddress}
@@ -23,10 +23,10 @@ use Rattle.verdicts.specs.Chain.{occ}
 use Rattle.verdicts.specs.Pairing.{ownOf}
 use Rattle.verdicts.specs.Judge.{imageChain, verdictOf}
 use Rattle.layout.specs.Layout.{laidSheet, layOutOf}
-use Rattle.heap.specs.Allocate.{lawfulSize, allocateOf}
-use Rattle.heap.specs.Free.{freeOf}
-use Rattle.heap.specs.Store.{storeOf}
-use Rattle.heap.specs.Show.{shownOf}
+use Rattle.allocation.specs.Allocate.{lawfulSize, allocateOf}
+use Rattle.holding.specs.Free.{freeOf}
+use Rattle.holding.specs.Store.{storeOf}
+use Rattle.holding.specs.Show.{shownOf}
 use Rattle.area.specs.declared.sheet.Sheet.{Sheet}
 use Rattle.area.specs.declared.sheet.Opened.the-variants.{Image}
 use Rattle.verdicts.specs.declared.chain.Ending.the-variants.{End}
@@ -34,9 +34,9 @@ use Rattle.verdicts.specs.declared.pairing.Own.the-variants.{One}
 use Rattle.area.specs.declared.refusal.Refusal.the-variants.{NoRoom, NotAllocated}
 use Rattle.area.specs.declared.refusal.Outcome.{Outcome}
 use Rattle.area.specs.declared.refusal.Outcome.the-variants as outcome
-use Rattle.heap.specs.declared.allocate.Allocated.{Allocated}
-use Rattle.heap.specs.declared.allocate.Allocated.the-variants as allocated
-use Rattle.heap.specs.declared.show.Shown.the-variants as shown
+use Rattle.allocation.specs.declared.allocate.Allocated.{Allocated}
+use Rattle.allocation.specs.declared.allocate.Allocated.the-variants as allocated
+use Rattle.holding.specs.declared.show.Shown.the-variants as shown
 
 -- ---- the calls
 

@@ -1,8 +1,7 @@
--- The laws of tags, size codes and chunks, and what the steps of the code come to. Assumes nothing.
+-- The laws of tags and of size codes. Assumes nothing.
 -- ---- the tag
 use mathlib.Core.Path.{_≡_, refl, ap, ap₂, _∙_}
 use mathlib.Core.Bool.{Bool, true, false, _&&_}
-use mathlib.Core.List.{List, _++_}
 use Prim.Native.Nat.{ℕ, zero, suc, _+_, _-_, _*_, _/_, _%_, _≤_, _<_}
 use native.Mathlib.Nat.{mod-lt, div-add-mod', zero-lt-suc}
 use native.Mathlib.Omega.{arith}
@@ -10,25 +9,12 @@ use borrow.Author.Tests.{le-leb, leb-true}
 use lib.Arith.{bin-ind}
 use lib.Bits.{bitXor, differ, xor-step, xor-shr, xor-mod}
 use lib.Dec.{eqb, leb}
-use lib.ListN.{length, getD, set, length-append, length-set}
-use lib.Seq.{sets}
-use Rattle.words.specs.Word.{part, bytesOf}
-use Rattle.words.specs.Run.{pick, repeated, difference}
-use Rattle.words.specs.declared.run.Difference.{Difference}
-use Rattle.words.specs.declared.run.Difference.the-variants.{At, Nowhere}
-use Rattle.words.proofs.Laws.{sets-next, sets-whole, length-bytesOf, length-repeated, repeated-once}
+use Rattle.words.specs.Run.{pick}
 use Rattle.tags.specs.Tag.{tagOf, patternOf, patternWord, stateWord, statePattern}
 use Rattle.tags.specs.SizeCode.{codeOf, decodedOf}
-use Rattle.tags.specs.Chunk.{redzone, guard, bufferSize, chunkOf, freeChunk, grantedChunk}
-use Rattle.tags.specs.Judge.{ifDiffers, r1Of, ofCode, zoneAfter, zoneVerdict, sizedVerdict, allocatedVerdict}
 use Rattle.tags.specs.declared.tag.State.{State}
-use Rattle.tags.specs.declared.size_code.Decoded.{Decoded}
 use Rattle.tags.specs.declared.size_code.Decoded.the-variants.{Size, Bad}
-use Rattle.tags.specs.declared.chunk.Grant.{Grant}
-use Rattle.tags.specs.declared.verdict.Verdict.{Verdict}
-use Rattle.tags.specs.declared.verdict.Verdict.the-variants.{Whole, Allocated, Overrun}
 use Rattle.tags.specs.declared.tag.State.the-variants as state
-use Rattle.tags.specs.declared.chunk.Grant.the-variants as grant
 
 digit : (x y : ℕ) → x < 2 → y < 2 → differ x (differ x y) ≡ y
 digit zero y hx hy = refl
@@ -95,76 +81,3 @@ decoded-within code most s e = go (eqb (code % 251) 1 && (leb 1 (code / 251) && 
         let both = and-true (leb 1 (code / 251)) (leb (code / 251) most) (and-true (eqb (code % 251) 1) (leb 1 (code / 251) && leb (code / 251) most) t .1) in
         rw (← z) (leb-true 1 (code / 251) (both .0), leb-true (code / 251) most (both .1))
     go false t f = absurd (let z : _≡_ {A = ℕ} 0 1 = cc in omega arith)
-
--- ---- a chunk is written
-
--- the fill and then four words are written one after the other over `l`
-pub laid : (l s₀ s₁ s₂ s₃ s₄ : List ℕ) (n w r1 t0 t1 : ℕ) → length l ≡ n + 16 → s₀ ≡ sets l 0 (repeated n w)
-    → s₁ ≡ sets s₀ n (bytesOf 4 redzone) → s₂ ≡ sets s₁ (n + 4) (bytesOf 4 r1) → s₃ ≡ sets s₂ (n + 8) (bytesOf 4 t0)
-    → s₄ ≡ sets s₃ (n + 12) (bytesOf 4 t1) → s₄ ≡ chunkOf (repeated n w) redzone r1 t0 t1
-unfolding chunkOf
-laid l s₀ s₁ s₂ s₃ s₄ n w r1 t0 t1 el e₀ e₁ e₂ e₃ e₄ =
-    let p₀ = repeated n w in
-    let p₁ = p₀ ++ bytesOf 4 redzone in
-    let p₂ = p₁ ++ bytesOf 4 r1 in
-    let p₃ = p₂ ++ bytesOf 4 t0 in
-    let f₁ = sets-next l p₀ (bytesOf 4 redzone) 0 n n e₀ (length-repeated n w) (omega arith) e₁ in
-    let f₂ = sets-next l p₁ (bytesOf 4 r1) 0 (n + 4) (n + 4) f₁ (simp (length-append, length-bytesOf, length-repeated)) (omega arith) e₂ in
-    let f₃ = sets-next l p₂ (bytesOf 4 t0) 0 (n + 8) (n + 8) f₂ (simp (length-append, length-bytesOf, length-repeated) (omega arith)) (omega arith) e₃ in
-    let f₄ = sets-next l p₃ (bytesOf 4 t1) 0 (n + 12) (n + 12) f₃ (simp (length-append, length-bytesOf, length-repeated) (omega arith)) (omega arith) e₄ in
-    f₄ ∙ sets-whole l (p₃ ++ bytesOf 4 t1) (simp (length-append, length-bytesOf, length-repeated) (omega arith))
-
-pub length-chunkOf : (b : List ℕ) (r0 r1 t0 t1 : ℕ) → length (chunkOf b r0 r1 t0 t1) ≡ length b + 16
-unfolding chunkOf
-length-chunkOf b r0 r1 t0 t1 = simp (length-append, length-bytesOf) (omega arith)
-
-pub length-freeChunk : (size a : ℕ) → length (freeChunk size a) ≡ size + 16
-unfolding freeChunk
-length-freeChunk size a = simp (length-chunkOf, length-repeated)
-
-pub length-grantedChunk : (size a : ℕ) (g : Grant) → length (grantedChunk size a g) ≡ size + 16
-unfolding grantedChunk
-length-grantedChunk size a grant.Whole = simp (length-chunkOf, length-repeated)
-length-grantedChunk size a (grant.Sized s) = simp (length-set, length-chunkOf, length-repeated)
-
--- ---- a chunk is judged
-
--- the code compares R0 with a repeated word, the rule with the word's bytes
-pub zone-at : (c : List ℕ) (w o : ℕ) (v : Verdict) (d : Difference) → d ≡ difference (part c (bufferSize c) 4) (repeated 4 w) → d ≡ At o
-    → Overrun (bufferSize c + o) ≡ zoneVerdict c (bytesOf 4 w) v
-unfolding zoneVerdict
-zone-at c w o v d e g = rw (← repeated-once w, ← e, g)
-
-pub zone-sound : (c : List ℕ) (w : ℕ) (v : Verdict) (d : Difference) → d ≡ difference (part c (bufferSize c) 4) (repeated 4 w) → d ≡ Nowhere
-    → v ≡ zoneVerdict c (bytesOf 4 w) v
-unfolding zoneVerdict
-zone-sound c w v d e g = rw (← repeated-once w, ← e, g)
-
--- R0 after a grant of the whole buffer's size
-pub guarded-zone : bytesOf 4 0xbbedface ≡ set (bytesOf 4 redzone) 0 guard
-unfolding bytesOf
-guarded-zone = refl
-
--- a verdict of so many bytes allocated is one of the buffer's sizes
-zone-within : (c zone : List ℕ) (v : Verdict) (s : ℕ) → zoneVerdict c zone v ≡ Allocated s → v ≡ Allocated s
-unfolding zoneVerdict
-zone-within c zone v s e = go (difference (part c (bufferSize c) 4) zone) e
-  where
-    go : (d : Difference) → ifDiffers d (λ o. Overrun (bufferSize c + o)) v ≡ Allocated s → v ≡ Allocated s
-    go (At o) f = absurd (let z : _≡_ {A = ℕ} 0 1 = cc in omega arith)
-    go Nowhere f = f
-
-pub allocated-within : (c : List ℕ) (s : ℕ) → allocatedVerdict c ≡ Allocated s → (1 ≤ s) × (s ≤ bufferSize c)
-unfolding allocatedVerdict sizedVerdict
-allocated-within c s e = go (eqb (r1Of c) redzone) (decodedOf (r1Of c) (bufferSize c)) refl e
-  where
-    sized : (k : ℕ) (b : Bool) → pick b (zoneVerdict c (zoneAfter k (bufferSize c)) (Allocated k)) (Overrun k) ≡ Allocated s → k ≡ s
-    sized k true f = let z = zone-within c (zoneAfter k (bufferSize c)) (Allocated k) s f in cc
-    sized k false f = absurd (let z : _≡_ {A = ℕ} 0 1 = cc in omega arith)
-
-    go : (b : Bool) (d : Decoded) → decodedOf (r1Of c) (bufferSize c) ≡ d
-        → pick b (zoneVerdict c (bytesOf 4 redzone) Whole) (ofCode d (λ k. pick (eqb (getD c k 0) guard) (zoneVerdict c (zoneAfter k (bufferSize c)) (Allocated k)) (Overrun k))) ≡ Allocated s
-        → (1 ≤ s) × (s ≤ bufferSize c)
-    go true d q f = absurd (let w = zone-within c (bytesOf 4 redzone) Whole s f in let z : _≡_ {A = ℕ} 0 1 = cc in omega arith)
-    go false (Size k) q f = let z : k ≡ s = sized k (eqb (getD c k 0) guard) f in decoded-within (r1Of c) (bufferSize c) s (q ∙ ap Size z)
-    go false Bad q f = absurd (let z : _≡_ {A = ℕ} 0 1 = cc in omega arith)

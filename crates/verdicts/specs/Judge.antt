@@ -6,8 +6,8 @@ use lib.Dec.{eqb}
 use lib.ListN.{getD}
 use Rattle.words.specs.Run.{pick}
 use Rattle.tags.specs.Tag.{patternOf}
-use Rattle.tags.specs.Chunk.{tagAt}
-use Rattle.tags.specs.Judge.{ofPattern}
+use Rattle.chunks.specs.Chunk.{tagAt}
+use Rattle.chunks.specs.Judge.{ofPattern}
 use Rattle.tags.specs.declared.tag.Pattern.{Pattern}
 use Rattle.tags.specs.declared.tag.Pattern.the-variants as pattern
 use Rattle.tags.specs.declared.verdict.Verdict.{Verdict}

@@ -1,6 +1,6 @@
 -- The word lies whole in the window, so that it is one; the other case does not arise. Assumes nothing.
 use borrow.Author.Needs.{needs}
-use Rattle.area.proofs.Windows.{number-inside}
+use Rattle.window.proofs.Windows.{number-inside}
 use Rattle.area.proofs.record.read_at.Statement.{statement}
 use Rattle.area.proofs.record.read_at.Tie as tie
 

@@ -2,7 +2,7 @@
 use mathlib.Core.Path.{_∙_, ap, sym, subst}
 use native.Mathlib.Omega.{arith}
 use borrow.Author.Needs.{needs}
-use Rattle.heap.specs.Show.{ShownIf}
+use Rattle.holding.specs.Show.{ShownIf}
 use Rattle.capi.specs.Answer.{showWord}
 use Rattle.capi.proofs.calls.cg_show.Statement.{statement}
 use Rattle.capi.proofs.calls.cg_show.Tie as tie

@@ -3,7 +3,7 @@ use mathlib.Core.Path.{_∙_, ap, sym, subst}
 use native.Mathlib.Omega.{arith}
 use borrow.Author.Needs.{needs}
 use Rattle.capi.specs.Answer.{latestWord}
-use Rattle.image.specs.Latest.{LatestIf}
+use Rattle.transactions.specs.Latest.{LatestIf}
 use Rattle.capi.proofs.reader.cg_latest.Statement.{statement}
 use Rattle.capi.proofs.reader.cg_latest.Tie as tie
 

@@ -2,8 +2,8 @@
 use Prim.Native.Nat.{ℕ}
 use native.Mathlib.Omega.{arith}
 use borrow.Author.Needs.{needs}
-use Rattle.tags.specs.Chunk.{freeChunk}
-use Rattle.tags.proofs.Laws.{length-freeChunk}
+use Rattle.chunks.specs.Chunk.{freeChunk}
+use Rattle.chunks.proofs.Chunks.{length-freeChunk}
 use Rattle.area.specs.Areas.{recordAddress}
 use Rattle.area.proofs.Sheets.{chunk-inside, chunk-small, chunk-back}
 use Rattle.layout.proofs.places.write_chunk.Statement.{statement}

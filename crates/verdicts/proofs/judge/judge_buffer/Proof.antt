@@ -8,7 +8,7 @@ use Rattle.verdicts.specs.Pairing.{OwnIf}
 use Rattle.verdicts.specs.Judge.{ownedVerdict, marked, judged}
 use Rattle.area.specs.Areas.{recordAddress}
 use Rattle.words.specs.Word.{part}
-use Rattle.tags.specs.Chunk.{ChunkLength}
+use Rattle.chunks.specs.Chunk.{ChunkLength}
 use Rattle.area.specs.Sheet.{heapLength}
 use Rattle.area.specs.declared.sheet.Sheet.{Sheet}
 use Rattle.area.proofs.Sheets.{chunk-inside, chunk-small, record-small, record-word, chunk-length}

@@ -1,0 +1,17 @@
+-- A chunk that is found free is taken. Assumes nothing.
+use borrow.Author.Tests.{eq-eqb, ne-eqb}
+use borrow.Author.Needs.{needs}
+use Rattle.allocation.proofs.allocate.if_free.Statement.{statement}
+use Rattle.allocation.proofs.allocate.if_free.Tie as tie
+
+number-requires : tie.Need-number-requires
+number-requires c κs = search needs
+
+returns : tie.Need-returns
+returns c = rw (← c .before .number .ensures, eq-eqb _ _ (c .if1 .taken))
+
+returns-2 : tie.Need-returns-2
+returns-2 c = rw (← c .before .number .ensures, ne-eqb _ _ (c .if1 .left))
+
+pub if-free-spec : {M : Type 1} → statement M
+if-free-spec = tie.close (tie.spec number-requires returns returns-2)

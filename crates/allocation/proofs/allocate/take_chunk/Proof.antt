@@ -1,0 +1,65 @@
+-- T0 must be the head, then the pattern decides, and then the free chunk's verdict. Assumes nothing.
+use mathlib.Core.Path.{sym, subst}
+use borrow.Author.Tests.{eq-eqb, ne-eqb}
+use borrow.Author.Needs.{needs}
+use Rattle.allocation.specs.Allocate.{takenChunk, SpotIf}
+use Rattle.allocation.proofs.Takings.{free-spot}
+use Rattle.allocation.proofs.allocate.take_chunk.Statement.{statement}
+use Rattle.allocation.proofs.allocate.take_chunk.Tie as tie
+
+read-tag-requires : tie.Need-read-tag-requires
+read-tag-requires c κs = search needs
+
+returns : tie.Need-returns
+unfolding takenChunk
+returns c = (rw (← c .before .before .before .read-tag .ensures, ne-eqb _ _ (c .if1 .taken)), tt)
+
+pattern-requires : tie.Need-pattern-requires
+pattern-requires c κs = search needs
+
+enum-told : tie.Need-enum-told
+enum-told c = search needs
+
+enum-told-2 : tie.Need-enum-told-2
+enum-told-2 c = search needs
+
+enum-told-3 : tie.Need-enum-told-3
+enum-told-3 c = search needs
+
+judge-free-requires : tie.Need-judge-free-requires
+judge-free-requires c κs = search needs
+
+if-free-requires : tie.Need-if-free-requires
+if-free-requires c κs = search needs
+
+returns-2 : tie.Need-returns-2
+unfolding takenChunk
+returns-2 c = (rw (← c .before .before .before .before .before .before .read-tag .ensures, eq-eqb _ _ (c .before .before .before .if1 .left), ← c .before .before .pattern .ensures, c .enum-told .given .1), tt)
+
+returns-3 : tie.Need-returns-3
+unfolding takenChunk
+returns-3 c = (rw (← c .before .before .before .before .before .before .read-tag .ensures, eq-eqb _ _ (c .before .before .before .if1 .left), ← c .before .before .pattern .ensures, c .enum-told2 .given .1), tt)
+
+returns-4 : tie.Need-returns-4
+unfolding takenChunk
+returns-4 c =
+    let p = c .before .before .before .before .before .before .before .before .before .before .before .args .p in (
+      rw (← c .before .before .before .before .before .before .before .before .read-tag .ensures, eq-eqb _ _ (c .before .before .before .before .before .if1 .left), ← c .before .before .before .before .pattern .ensures, c .before .before .enum-told3 .given .1, ← c .before .judge-free .ensures) (c .if-free .ensures),
+      subst (SpotIf p) (sym (c .if-free .ensures)) (free-spot (c .before .judge-free .result) p),
+    )
+
+pub take-chunk-spec : {M : Type 1} → statement M
+take-chunk-spec =
+    tie.close
+    (tie.spec
+    read-tag-requires
+    returns
+    pattern-requires
+    enum-told
+    enum-told-2
+    enum-told-3
+    judge-free-requires
+    if-free-requires
+    returns-2
+    returns-3
+    returns-4)

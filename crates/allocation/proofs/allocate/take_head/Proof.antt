@@ -1,0 +1,111 @@
+-- The head is a record's address, that record's word a buffer's, and the chunk is the one at that place. Assumes nothing.
+use mathlib.Core.Path.{_≡_, refl, sym, ap, _∙_}
+use Prim.Native.Nat.{ℕ, _+_, _*_, _-_, _<_}
+use native.Mathlib.Omega.{arith}
+use borrow.Author.Needs.{needs}
+use lib.ListN.{length, take, drop}
+use Rattle.allocation.specs.Allocate.{takenChunk, takenHead}
+use Rattle.allocation.proofs.Takings.{spot-taken}
+use Rattle.area.proofs.Places.{place-found}
+use Rattle.area.proofs.Sheets.{chunk-inside, chunk-small, record-inside, record-word, lent-long}
+use Rattle.words.specs.Word.{part}
+use Rattle.allocation.proofs.allocate.take_head.Statement.{statement}
+use Rattle.allocation.proofs.allocate.take_head.Tie as tie
+
+find-requires : tie.Need-find-requires
+find-requires c κs = search needs
+
+enum-told : tie.Need-enum-told
+enum-told c = search needs
+
+enum-known-head : tie.Need-enum-known-head
+enum-known-head c = search needs
+
+-- the head's record is one of the image's
+own : (c : tie.After-head) → c .head .given .0 .0 < c .before .before .before .before .before .args .g .count
+own c = place-found _ _ _ _ _ (sym (c .before .before .find .ensures) ∙ c .head .given .1) .0
+
+-- and so is the buffer that it names
+found : (c : tie.After-buffer) → c .buffer .given .0 .0 < c .before .before .before .before .before .before .before .before .before .before .args .g .count
+found c = place-found _ _ _ _ _ (sym (c .before .before .find2 .ensures) ∙ c .buffer .given .1) .0
+
+read-requires : tie.Need-read-requires
+read-requires c κs =
+    let s = c .before .before .before .before .before .before in
+    let h = record-inside (s .args .g) (s .pre .0 .law) _ (own (c .before)) in
+    let w = record-word (s .args .g) (s .pre .0 .law) _ (own (c .before)) in
+    let e = s .pre .0 .recordsLong in
+    (omega arith, (omega arith, omega arith))
+
+find-requires-2 : tie.Need-find-requires-2
+find-requires-2 c κs = search needs
+
+enum-told-2 : tie.Need-enum-told-2
+enum-told-2 c = search needs
+
+enum-known-buffer : tie.Need-enum-known-buffer
+enum-known-buffer c = search needs
+
+mul-at : tie.Need-mul-at
+mul-at c = let s = c .before .before .before .before .before .before .before .before .before .before .before .before in let k = chunk-small (s .args .g) (s .pre .0 .law) _ (found (c .before .before)) in omega arith
+
+add-end : tie.Need-add-end
+add-end c = let s = c .before .before .before .before .before .before .before .before .before .before .before .before .before in let k = chunk-small (s .args .g) (s .pre .0 .law) _ (found (c .before .before .before)) in omega arith
+
+sub-take-chunk : tie.Need-sub-take-chunk
+sub-take-chunk c = search needs
+
+part-take-chunk-start : tie.Need-part-take-chunk-start
+part-take-chunk-start c = search needs
+
+part-take-chunk-end : tie.Need-part-take-chunk-end
+part-take-chunk-end c = let s = c .before .before .before .before .before .before .before .before .before .before .before .before .before in let k = chunk-inside (s .args .g) (s .pre .0 .law) _ (found (c .before .before .before)) in let e = s .pre .0 .heapLong in omega arith
+
+take-chunk-requires : tie.Need-take-chunk-requires
+take-chunk-requires c κs =
+    let s = c .before .before .before .before .before .before .before .before .before .before .before .before .before .before in (lent-long (s .args .heap .now) (s .args .g) _ (s .pre .0 .law) (s .pre .0 .heapLong) (found (c .before .before .before .before)), s .pre .0 .law)
+
+returns : tie.Need-returns
+unfolding takenHead
+returns c = (rw (← c .before .before .find .ensures, c .enum-told .given .1), tt)
+
+returns-2 : tie.Need-returns-2
+unfolding takenHead
+returns-2 c = (rw (← c .before .before .before .before .before .before .before .find .ensures, c .before .before .before .before .before .head .given .1, ← c .before .before .before .read .ensures, ← c .before .before .find2 .ensures, c .enum-told2 .given .1), tt)
+
+returns-3 : tie.Need-returns-3
+unfolding takenHead part
+returns-3 c =
+    let p = c .before .before .before .before .before in
+    let s = c .before .before .before .before .before .before .before .before .before .before .before .before .before .before .before in
+    let g = s .args .g in
+    let i = p .buffer .given .0 .0 in
+    let j = c .before .before .before .before .before .before .before .before .before .before .head .given .0 .0 in
+    let e : i * g .chunk + g .chunk - i * g .chunk ≡ g .chunk = omega arith in (
+      rw (← c .before .before .before .before .before .before .before .before .before .before .before .before .find .ensures, c .before .before .before .before .before .before .before .before .before .before .head .given .1, ← c .before .before .before .before .before .before .before .before .read .ensures, ← c .before .before .before .before .before .before .before .find2 .ensures, p .buffer .given .1)
+          (c .take-chunk .ensures .0 ∙ ap (λ (n : ℕ). takenChunk g (take n (drop (i * g .chunk) (s .args .heap .now))) j i) e),
+      spot-taken 48 (length (s .args .heap .now)) (length (s .args .records .now)) (s .args .grant) _ (c .take-chunk .result)
+          record { ready = record { long = refl; opened = s .pre .0; buffer = found p; own = own (c .before .before .before .before .before .before .before .before .before .before) }; granted = s .pre .1 }
+          (c .take-chunk .ensures .1),
+    )
+
+pub take-head-spec : {M : Type 1} → statement M
+take-head-spec =
+    tie.close
+    (tie.spec
+    find-requires
+    enum-told
+    enum-known-head
+    read-requires
+    find-requires-2
+    enum-told-2
+    enum-known-buffer
+    mul-at
+    add-end
+    sub-take-chunk
+    part-take-chunk-start
+    part-take-chunk-end
+    take-chunk-requires
+    returns
+    returns-2
+    returns-3)

@@ -1,0 +1,96 @@
+-- "Allocate (size or whole, uptime, thread) takes the head record, answers its buffer's address, and the head becomes its next word." Assumes nothing.
+use mathlib.Core.Path.{_≡_}
+use mathlib.Core.Bool.{Bool, true, _&&_}
+use mathlib.Core.List.{List}
+use Prim.Native.Nat.{ℕ, _*_}
+use lib.Dec.{eqb, leb}
+use lib.ListN.{length}
+use lib.Seq.{sets}
+use Rattle.words.specs.Run.{pick}
+use Rattle.tags.specs.Tag.{patternOf}
+use Rattle.chunks.specs.Chunk.{tagAt, grantedChunk, LawfulGrant}
+use Rattle.chunks.specs.Judge.{freeVerdict}
+use Rattle.tags.specs.Verdict.{verdictNumber}
+use Rattle.tags.specs.declared.tag.Pattern.{Pattern}
+use Rattle.tags.specs.declared.tag.Pattern.the-variants as pattern
+use Rattle.chunks.specs.declared.chunk.Grant.{Grant}
+use Rattle.chunks.specs.declared.chunk.Grant.the-variants.{Whole, Sized}
+use Rattle.tags.specs.declared.verdict.Verdict.{Verdict}
+use Rattle.tags.specs.declared.verdict.Verdict.the-variants as verdict
+use Rattle.area.specs.Areas.{Areas, Ready, Result, refusedWith, withHead, stamped, bufferAddress, recordAddress, chunkAt}
+use Rattle.area.specs.Place.{placeOf, placed}
+use Rattle.area.specs.Record.{recordSize, addressWord, nextWord}
+use Rattle.area.specs.Sheet.{openedOf, onOpened}
+use Rattle.area.specs.declared.sheet.Sheet.{Sheet}
+use Rattle.area.specs.declared.refusal.Refusal.{Refusal}
+use Rattle.area.specs.declared.refusal.Refusal.the-variants.{NoRoom, BadSize, Damage, BrokenHead}
+use Rattle.allocation.specs.declared.allocate.Spot.{Spot}
+use Rattle.allocation.specs.declared.allocate.AllocatePlan.{AllocatePlan}
+use Rattle.allocation.specs.declared.allocate.AllocatePlan.the-variants.{Take, Refused}
+use Rattle.allocation.specs.declared.allocate.Allocated.{Allocated}
+use Rattle.allocation.specs.declared.allocate.Allocated.the-variants as allocated
+
+-- "6: size 0 or above buffer size" does not fit
+abbrev pub lawfulSize : Grant → ℕ → Bool
+lawfulSize Whole size = true
+lawfulSize (Sized s) size = leb 1 s && leb s size
+
+-- "fill (25), redzone (26)": "Found free is verdict 0", and then the buffer is taken; any other verdict refuses
+abbrev pub ifFree : Verdict → Spot → AllocatePlan
+ifFree v p = pick (eqb (verdictNumber v) 0) (Take p) (Refused (Damage v))
+
+-- "neither pattern (21), allocated pattern (24)", then the free chunk's own bytes
+abbrev pub takenBy : Pattern → List ℕ → Spot → AllocatePlan
+takenBy pattern.Neither c p = Refused (Damage verdict.BadTag)
+takenBy pattern.Allocated c p = Refused (Damage verdict.OnChain)
+takenBy pattern.Free c p = ifFree (freeVerdict c) p
+
+-- "T0 not the head", for the chunk c of the head record's buffer
+unfoldable pub takenChunk : Sheet → List ℕ → ℕ → ℕ → AllocatePlan
+takenChunk g c j i =
+    pick (eqb (tagAt c .t0) (g .head)) (takenBy (patternOf (tagAt c)) c (record { sheet = g; buffer = i; own = j })) (Refused (Damage verdict.BadTag))
+
+-- "head no record (29), its address word no buffer (20)"
+unfoldable pub takenHead : Sheet → List ℕ → List ℕ → AllocatePlan
+takenHead g heap records =
+    placed (placeOf (g .records) recordSize (g .count) (g .head))
+    (λ j. placed (placeOf (g .heap) (g .chunk) (g .count) (addressWord records j)) (λ i. takenChunk g (chunkAt g heap i) j i) (Refused (Damage verdict.NotOneRecord)))
+    (Refused BrokenHead)
+
+-- "Allocate: 6, 5, then 7"
+unfoldable pub takenOf : Sheet → List ℕ → List ℕ → Grant → AllocatePlan
+takenOf g heap records q =
+    pick (lawfulSize q (g .size)) (pick (eqb (g .head) 0) (Refused NoRoom) (takenHead g heap records)) (Refused BadSize)
+
+unfoldable pub allocatePlan : Areas → Grant → AllocatePlan
+allocatePlan a q = onOpened (openedOf (a .sheet) (length (a .heap)) (length (a .records))) (λ g. takenOf g (a .heap) (a .records) q) Refused
+
+-- what is written: the granted chunk, the record's stamp and thread, the new head. "A granted record's next word stays. Nothing else changes."
+unfoldable pub grantedAreas : Areas → Grant → ℕ → ℕ → Spot → Areas
+grantedAreas a q uptime thread p = record {
+  sheet = withHead (a .sheet) (nextWord (a .records) (p .own));
+  heap = sets (a .heap) (p .buffer * p .sheet .chunk) (grantedChunk (p .sheet .size) (p .sheet .head) q);
+  records = stamped (a .records) (p .own) uptime thread;
+}
+
+abbrev pub allocateBy : Areas → Grant → ℕ → ℕ → AllocatePlan → Result Allocated
+allocateBy a q uptime thread (Take p) = record { answer = allocated.At (bufferAddress (p .sheet) (p .buffer)); areas = grantedAreas a q uptime thread p }
+allocateBy a q uptime thread (Refused why) = refusedWith (allocated.Refused why) a
+
+unfoldable pub allocateOf : Areas → Grant → ℕ → ℕ → Result Allocated
+allocateOf a q uptime thread = allocateBy a q uptime thread (allocatePlan a q)
+
+-- ---- what is known of a buffer that is taken, in areas of s, h and r bytes
+
+pub record Takes (s h r : ℕ) (q : Grant) (p : Spot) : Type 0 where
+  pub ready : Ready s h r (p .sheet) (p .buffer) (p .own)
+  pub granted : LawfulGrant (p .sheet .size) q
+
+abbrev pub TakenIf : ℕ → ℕ → ℕ → Grant → AllocatePlan → Type 0
+TakenIf s h r q (Take p) = Takes s h r q p
+TakenIf s h r q (Refused why) = Unit {0}
+
+-- a plan takes the buffer that it was asked about, if any
+abbrev pub SpotIf : Spot → AllocatePlan → Type 0
+SpotIf p (Take q) = q ≡ p
+SpotIf p (Refused why) = Unit {0}

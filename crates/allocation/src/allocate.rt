@@ -1,0 +1,198 @@
+// Allocate: a plan that only reads, and a commit that cannot fail.
+ghost use mathlib.Core.Path.{_≡_};
+ghost use Prim.Native.Nat.{_*_, _<_};
+ghost use lib.ListN.{length};
+ghost use Rattle.chunks.specs.Chunk.{LawfulGrant};
+ghost use Rattle.area.specs.Areas.{areas};
+ghost use Rattle.area.specs.Sheet.{Lawful, Open};
+ghost use Rattle.allocation.specs.Allocate.{lawfulSize, ifFree, takenChunk, takenHead, takenOf, SpotIf, allocatePlan, TakenIf, Takes, grantedAreas, allocateOf};
+use area::place;
+use area::place::Place;
+use area::record;
+use area::refusal::Refusal;
+use area::sheet;
+use area::sheet::Opened;
+use area::sheet::Sheet;
+use chunks::chunk;
+use chunks::chunk::Grant;
+use chunks::judge;
+use tags::tag::Pattern;
+use tags::verdict;
+use tags::verdict::Verdict;
+use words::word;
+
+// The buffer that an allocation takes, and its own record, the head of the chain.
+pub struct Spot {
+    pub sheet: Sheet,
+    pub buffer: usize,
+    pub own: usize,
+}
+
+// What an allocation will do.
+pub enum AllocatePlan {
+    Take(Spot),
+    Refused(Refusal),
+}
+
+// The address of the buffer granted, or why there is none.
+pub enum Allocated {
+    At(u32),
+    Refused(Refusal),
+}
+
+// Whether a request is of lawful size.
+fn lawful_size(grant: Grant, size: usize) -> bool
+    ensures { λ r. ⌜ r ≡ lawfulSize grant size ⌝ }
+{
+    match grant {
+        Grant::Whole => true,
+        Grant::Sized(s) => {
+            if s < 1 {
+                return false;
+            }
+            s as usize <= size
+        }
+    }
+}
+
+// A chunk that is found free is taken, and any other verdict refuses.
+fn if_free(v: Verdict, p: Spot) -> AllocatePlan
+    ensures { λ r. ⌜ r ≡ ifFree v p ⌝ }
+{
+    if verdict::number(v) == 0 {
+        return AllocatePlan::Take(p);
+    }
+    AllocatePlan::Refused(Refusal::Damage(v))
+}
+
+// The last step: the chunk of the head record's buffer.
+fn take_chunk(chunk: &[u8], p: Spot) -> AllocatePlan
+    requires { ⌜ length (now chunk) ≡ p .sheet .chunk ⌝ }
+    requires { ⌜ Lawful (p .sheet) ⌝ }
+    ensures { λ r. ⌜ r ≡ takenChunk (p .sheet) (now (chunk .entry)) (p .own) (p .buffer) ⌝ }
+    ensures { λ r. ⌜ SpotIf p r ⌝ }
+{
+    let g = p.sheet;
+    let tag = chunk::read_tag(chunk);
+    if tag.t0 != g.head {
+        return AllocatePlan::Refused(Refusal::Damage(Verdict::BadTag));
+    }
+    let pattern = tag.pattern();
+    match pattern {
+        Pattern::Neither => AllocatePlan::Refused(Refusal::Damage(Verdict::BadTag)),
+        Pattern::Allocated => AllocatePlan::Refused(Refusal::Damage(Verdict::OnChain)),
+        Pattern::Free => if_free(judge::judge_free(chunk), p),
+    }
+}
+
+// The step before it: the head must be a record's address, and that record's word a buffer's.
+fn take_head(heap: &[u8], records: &[u8], g: Sheet, grant: Grant) -> AllocatePlan
+    requires { ⌜ Open (length (now heap)) (length (now records)) g ⌝ }
+    requires { ⌜ LawfulGrant (g .size) grant ⌝ }
+    ensures { λ r. ⌜ r ≡ takenHead g (now (heap .entry)) (now (records .entry)) ⌝ }
+    ensures { λ r. ⌜ TakenIf 48 (length (now (heap .entry))) (length (now (records .entry))) grant r ⌝ }
+{
+    let head = place::find(g.records, record::SIZE, g.count, g.head);
+    match head {
+        Place::Nowhere => AllocatePlan::Refused(Refusal::BrokenHead),
+        Place::At(j) => {
+            let buffer = place::find(
+                g.heap,
+                g.chunk,
+                g.count,
+                record::read(records, g.records, j, record::BUFFER),
+            );
+            match buffer {
+                Place::Nowhere => AllocatePlan::Refused(Refusal::Damage(Verdict::NotOneRecord)),
+                Place::At(i) => {
+                    let at = i * g.chunk;
+                    let end = at + g.chunk;
+                    take_chunk(
+                        &heap[at..end],
+                        Spot {
+                            sheet: g,
+                            buffer: i,
+                            own: j,
+                        },
+                    )
+                }
+            }
+        }
+    }
+}
+
+// What an allocation of an open image will do.
+fn take(heap: &[u8], records: &[u8], g: Sheet, grant: Grant) -> AllocatePlan
+    requires { ⌜ Open (length (now heap)) (length (now records)) g ⌝ }
+    ensures { λ r. ⌜ r ≡ takenOf g (now (heap .entry)) (now (records .entry)) grant ⌝ }
+    ensures { λ r. ⌜ TakenIf 48 (length (now (heap .entry))) (length (now (records .entry))) grant r ⌝ }
+{
+    if lawful_size(grant, g.size) {
+        if g.head == 0 {
+            return AllocatePlan::Refused(Refusal::NoRoom);
+        }
+        return take_head(heap, records, g, grant);
+    }
+    AllocatePlan::Refused(Refusal::BadSize)
+}
+
+// What an allocation will do. It reads and writes nothing.
+fn plan(sheet: &[u8], heap: &[u8], records: &[u8], grant: Grant) -> AllocatePlan
+    ensures { λ r. ⌜ r ≡ allocatePlan (areas (now (sheet .entry)) (now (heap .entry)) (now (records .entry))) grant ⌝ }
+    ensures { λ r. ⌜ TakenIf (length (now (sheet .entry))) (length (now (heap .entry))) (length (now (records .entry))) grant r ⌝ }
+{
+    let opened = sheet::open(sheet, heap.len(), records.len());
+    match opened {
+        Opened::Refused(why) => AllocatePlan::Refused(why),
+        Opened::Image(g) => take(heap, records, g, grant),
+    }
+}
+
+// Writes what an allocation changes: the chunk, the record's stamp and thread, and the head.
+fn commit(
+    sheet: &mut [u8],
+    heap: &mut [u8],
+    records: &mut [u8],
+    grant: Grant,
+    p: Spot,
+    uptime: u32,
+    thread: u32,
+)
+    requires { ⌜ Takes (length (now sheet)) (length (now heap)) (length (now records)) grant p ⌝ }
+    ensures sheet { λ _. ⌜ now (sheet .exit) ≡ grantedAreas (areas (now (sheet .entry)) (now (heap .entry)) (now (records .entry))) grant uptime thread p .sheet ⌝ }
+    ensures heap { λ _. ⌜ now (heap .exit) ≡ grantedAreas (areas (now (sheet .entry)) (now (heap .entry)) (now (records .entry))) grant uptime thread p .heap ⌝ }
+    ensures records { λ _. ⌜ now (records .exit) ≡ grantedAreas (areas (now (sheet .entry)) (now (heap .entry)) (now (records .entry))) grant uptime thread p .records ⌝ }
+{
+    let g = p.sheet;
+    let at = p.buffer * g.chunk;
+    let end = at + g.chunk;
+    let next = record::read(records, g.records, p.own, record::NEXT);
+    chunk::write_granted(&mut heap[at..end], g.head, grant);
+    record::stamp(records, p.own, uptime, thread);
+    word::write_u32(sheet, sheet::HEAD, next);
+}
+
+// Grants a buffer, or refuses and leaves every byte as it was.
+pub fn allocate(
+    sheet: &mut [u8],
+    heap: &mut [u8],
+    records: &mut [u8],
+    grant: Grant,
+    uptime: u32,
+    thread: u32,
+) -> Allocated
+    ensures answer { λ r. ⌜ r ≡ allocateOf (areas (now (sheet .entry)) (now (heap .entry)) (now (records .entry))) grant uptime thread .answer ⌝ }
+    ensures sheet { λ _. ⌜ now (sheet .exit) ≡ allocateOf (areas (now (sheet .entry)) (now (heap .entry)) (now (records .entry))) grant uptime thread .areas .sheet ⌝ }
+    ensures heap { λ _. ⌜ now (heap .exit) ≡ allocateOf (areas (now (sheet .entry)) (now (heap .entry)) (now (records .entry))) grant uptime thread .areas .heap ⌝ }
+    ensures records { λ _. ⌜ now (records .exit) ≡ allocateOf (areas (now (sheet .entry)) (now (heap .entry)) (now (records .entry))) grant uptime thread .areas .records ⌝ }
+{
+    let planned = plan(sheet, heap, records, grant);
+    match planned {
+        AllocatePlan::Refused(why) => Allocated::Refused(why),
+        AllocatePlan::Take(p) => {
+            commit(sheet, heap, records, grant, p, uptime, thread);
+            let g = p.sheet;
+            Allocated::At(g.heap + (p.buffer * g.chunk) as u32)
+        }
+    }
+}

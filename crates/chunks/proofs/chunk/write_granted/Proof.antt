@@ -1,0 +1,67 @@
+-- A whole grant is the fill, both redzone words and the allocated tag; one of s bytes has its code in R1 and then the guard byte. Assumes nothing.
+use mathlib.Core.Path.{subst}
+use Prim.Native.Nat.{_≤_}
+use native.Mathlib.Omega.{arith}
+use borrow.Author.Needs.{needs}
+use Rattle.chunks.specs.Chunk.{LawfulGrant, bufferSize, grantedChunk}
+use Rattle.chunks.proofs.chunk.write_granted.Statement.{statement}
+use Rattle.chunks.proofs.chunk.write_granted.Tie as tie
+
+new-requires : tie.Need-new-requires
+new-requires c κs = search needs
+
+enum-told : tie.Need-enum-told
+enum-told c = search needs
+
+write-requires : tie.Need-write-requires
+write-requires c κs = search needs
+
+enum-known-grant : tie.Need-enum-known-grant
+enum-known-grant c = search needs
+
+-- the size of the grant is one of the buffer's
+lawful : (c : tie.After-grant) → c .grant .given .0 .0 ≤ bufferSize (c .before .before .before .before .args .chunk .now)
+lawful c = subst (LawfulGrant _) (c .grant .given .1) (c .before .before .before .before .pre .1) .1
+
+encode-requires : tie.Need-encode-requires
+encode-requires c κs = let h = lawful (c .before .before) in omega arith
+
+write-requires-2 : tie.Need-write-requires-2
+write-requires-2 c κs = search needs
+
+cast-i : tie.Need-cast-i
+cast-i c = search needs
+
+slice-write-chunk : tie.Need-slice-write-chunk
+slice-write-chunk c = let h = lawful (c .before .before .before .before .before .before) in omega arith
+
+same-length : tie.Need-same-length
+same-length c = search needs
+
+returns : tie.Need-returns
+unfolding grantedChunk
+returns c = rw (c .before .before .before .before .enum-told .given .1) (cc)
+
+same-length-2 : tie.Need-same-length-2
+same-length-2 c = search needs
+
+returns-2 : tie.Need-returns-2
+unfolding grantedChunk
+returns-2 c = rw (c .before .before .before .before .before .before .grant .given .1) (cc)
+
+pub write-granted-spec : {M : Type 1} → statement M
+write-granted-spec =
+    tie.close
+    (tie.spec
+    new-requires
+    enum-told
+    write-requires
+    enum-known-grant
+    encode-requires
+    write-requires-2
+    cast-i
+    slice-write-chunk
+    same-length
+    returns
+    same-length-2
+    returns-2)

@@ -1,0 +1,72 @@
+-- The fill and then the redzone are compared as the rule has them. Assumes nothing.
+use Prim.Native.Nat.{_<_}
+use native.Mathlib.Omega.{arith}
+use borrow.Author.Needs.{needs}
+use Rattle.words.proofs.Laws.{run-within}
+use Rattle.chunks.specs.Judge.{freeVerdict}
+use Rattle.chunks.proofs.judge.judge_free.Statement.{statement}
+use Rattle.chunks.proofs.judge.judge_free.Tie as tie
+
+sub-size : tie.Need-sub-size
+sub-size c = search needs
+
+first-difference-requires : tie.Need-first-difference-requires
+first-difference-requires c κs = search needs
+
+enum-known-fill : tie.Need-enum-known-fill
+enum-known-fill c = search needs
+
+cast-t8 : tie.Need-cast-t8
+cast-t8 c = omega (arith, run-within _ _ _ _ (omega arith) _ _ (c .before .before .before .first-difference .ensures) (c .before .fill .given .1))
+
+returns : tie.Need-returns
+unfolding freeVerdict
+returns c = rw (← c .before .before .before .first-difference .ensures, c .before .fill .given .1)
+
+enum-told : tie.Need-enum-told
+enum-told c = search needs
+
+first-difference-requires-2 : tie.Need-first-difference-requires-2
+first-difference-requires-2 c κs = search needs
+
+enum-known-zone : tie.Need-enum-known-zone
+enum-known-zone c = search needs
+
+-- the difference lies in the redzone
+zone-inside : (c : tie.After-known-told2) → c .before .zone .given .0 .0 < 8
+zone-inside c = run-within _ _ _ _ (omega arith) _ _ (c .before .before .before .first-difference2 .ensures) (c .before .zone .given .1)
+
+add-t10 : tie.Need-add-t10
+add-t10 c = omega (arith, zone-inside c)
+
+cast-t11 : tie.Need-cast-t11
+cast-t11 c = omega (arith, zone-inside c)
+
+enum-told-2 : tie.Need-enum-told-2
+enum-told-2 c = search needs
+
+returns-2 : tie.Need-returns-2
+unfolding freeVerdict
+returns-2 c = rw (← c .before .before .before .before .before .before .first-difference .ensures, c .before .before .before .before .enum-told .given .1, ← c .before .before .before .first-difference2 .ensures, c .before .zone .given .1)
+
+returns-3 : tie.Need-returns-3
+unfolding freeVerdict
+returns-3 c = rw (← c .before .before .before .before .before .first-difference .ensures, c .before .before .before .enum-told .given .1, ← c .before .before .first-difference2 .ensures, c .enum-told2 .given .1)
+
+pub judge-free-spec : {M : Type 1} → statement M
+judge-free-spec =
+    tie.close
+    (tie.spec
+    sub-size
+    first-difference-requires
+    enum-known-fill
+    cast-t8
+    returns
+    enum-told
+    first-difference-requires-2
+    enum-known-zone
+    add-t10
+    cast-t11
+    enum-told-2
+    returns-2
+    returns-3)

@@ -1,0 +1,49 @@
+-- R0's first difference is the rule's. Assumes nothing.
+use Prim.Native.Nat.{_<_}
+use native.Mathlib.Omega.{arith}
+use borrow.Author.Needs.{needs}
+use Rattle.chunks.proofs.Chunks.{zone-at, zone-sound}
+use Rattle.words.proofs.Laws.{run-within}
+use Rattle.chunks.proofs.judge.judge_zone.Statement.{statement}
+use Rattle.chunks.proofs.judge.judge_zone.Tie as tie
+
+sub-size : tie.Need-sub-size
+sub-size c = search needs
+
+first-difference-requires : tie.Need-first-difference-requires
+first-difference-requires c κs = search needs
+
+enum-known-d : tie.Need-enum-known-d
+enum-known-d c = search needs
+
+-- the difference lies in R0
+inside : (c : tie.After-known-told) → c .before .d .given .0 .0 < 4
+inside c = run-within _ _ _ _ (omega arith) _ _ (c .before .before .before .first-difference .ensures) (c .before .d .given .1)
+
+add-t9 : tie.Need-add-t9
+add-t9 c = omega (arith, inside c)
+
+cast-t10 : tie.Need-cast-t10
+cast-t10 c = omega (arith, inside c)
+
+enum-told : tie.Need-enum-told
+enum-told c = search needs
+
+returns : tie.Need-returns
+returns c = zone-at _ _ _ _ _ (c .before .before .before .first-difference .ensures) (c .before .d .given .1)
+
+returns-2 : tie.Need-returns-2
+returns-2 c = zone-sound _ _ _ _ (c .before .before .first-difference .ensures) (c .enum-told .given .1)
+
+pub judge-zone-spec : {M : Type 1} → statement M
+judge-zone-spec =
+    tie.close
+    (tie.spec
+    sub-size
+    first-difference-requires
+    enum-known-d
+    add-t9
+    cast-t10
+    enum-told
+    returns
+    returns-2)

@@ -1,0 +1,2 @@
+pub mod Chunk
+pub mod Judge

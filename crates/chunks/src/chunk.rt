@@ -1,0 +1,77 @@
+// The bytes of a chunk: the buffer, the redzone words R0 and R1, and the tag.
+ghost use mathlib.Core.Path.{_≡_};
+ghost use Prim.Native.Nat.{_-_};
+ghost use lib.ListN.{length};
+ghost use Rattle.words.specs.Run.{repeated};
+ghost use Rattle.chunks.specs.Chunk.{ChunkLength, LawfulGrant, redzone, chunkOf, bufferSize, freeChunk, grantedChunk, tagAt};
+use tags::size_code;
+use tags::tag::State;
+use tags::tag::Tag;
+use words::run;
+use words::word;
+
+pub const REDZONE: u32 = 0xfeedface;
+
+pub const FREE_FILL: u32 = 0xdeadbeef;
+
+pub const GRANT_FILL: u32 = 0xbaddcafe;
+
+pub const GUARD: u8 = 0xbb;
+
+// What a buffer is granted as, or asked for: whole, or so many bytes of it.
+pub enum Grant {
+    Whole,
+    Sized(u32),
+}
+
+// Writes a whole chunk: a fill word again and again, R0, R1 and a tag.
+fn write(chunk: &mut [u8], fill: u32, r1: u32, tag: Tag)
+    requires { ⌜ ChunkLength (length (now chunk)) ⌝ }
+    ensures { λ _. ⌜ now (chunk .exit) ≡ chunkOf (repeated (length (now (chunk .entry)) - 16) fill) redzone r1 (tag .t0) (tag .t1) ⌝ }
+{
+    let size = chunk.len() - 16;
+    run::fill(chunk, 0, size, fill);
+    word::write_u32(chunk, size, REDZONE);
+    word::write_u32(chunk, size + 4, r1);
+    word::write_u32(chunk, size + 8, tag.t0);
+    word::write_u32(chunk, size + 12, tag.t1);
+}
+
+// Writes the chunk of a free buffer whose record is at an address.
+pub fn write_free(chunk: &mut [u8], record_at: u32)
+    requires { ⌜ ChunkLength (length (now chunk)) ⌝ }
+    ensures { λ _. ⌜ now (chunk .exit) ≡ freeChunk (bufferSize (now (chunk .entry))) «record_at» ⌝ }
+{
+    write(chunk, FREE_FILL, REDZONE, Tag::new(record_at, State::Free));
+}
+
+// Writes the chunk of a granted buffer whose record is at an address.
+pub fn write_granted(chunk: &mut [u8], record_at: u32, grant: Grant)
+    requires { ⌜ ChunkLength (length (now chunk)) ⌝ }
+    requires { ⌜ LawfulGrant (bufferSize (now chunk)) grant ⌝ }
+    ensures { λ _. ⌜ now (chunk .exit) ≡ grantedChunk (bufferSize (now (chunk .entry))) «record_at» grant ⌝ }
+{
+    let tag = Tag::new(record_at, State::Allocated);
+    match grant {
+        Grant::Whole => {
+            write(chunk, GRANT_FILL, REDZONE, tag);
+        }
+        Grant::Sized(s) => {
+            write(chunk, GRANT_FILL, size_code::encode(s), tag);
+            let i = s as usize;
+            chunk[i] = GUARD;
+        }
+    }
+}
+
+// The tag of a chunk.
+pub fn read_tag(chunk: &[u8]) -> Tag
+    requires { ⌜ ChunkLength (length (now chunk)) ⌝ }
+    ensures { λ r. ⌜ r ≡ tagAt (now (chunk .entry)) ⌝ }
+{
+    let size = chunk.len() - 16;
+    Tag {
+        t0: word::read_u32(chunk, size + 8),
+        t1: word::read_u32(chunk, size + 12),
+    }
+}

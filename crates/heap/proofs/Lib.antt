@@ -1,2 +1,0 @@
-pub mod Holdings
-pub mod Takings

@@ -1,5 +1,0 @@
-pub mod Allocate
-pub mod Holding
-pub mod Free
-pub mod Store
-pub mod Show

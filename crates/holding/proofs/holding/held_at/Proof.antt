@@ -1,0 +1,79 @@
+-- The chunk is the one at the buffer's place. Assumes nothing.
+use mathlib.Core.Path.{_≡_, refl, sym, ap, _∙_, subst}
+use Prim.Native.Nat.{ℕ, _+_, _*_, _-_, _<_}
+use native.Mathlib.Omega.{arith}
+use borrow.Author.Needs.{needs}
+use lib.ListN.{length, take, drop}
+use Rattle.area.proofs.Sheets.{chunk-inside, chunk-small, lent-long}
+use Rattle.area.proofs.Places.{place-found}
+use Rattle.holding.specs.Holding.{heldChunk, heldAt, HeldIf}
+use Rattle.words.specs.Word.{part}
+use Rattle.holding.proofs.holding.held_at.Statement.{statement}
+use Rattle.holding.proofs.holding.held_at.Tie as tie
+
+find-requires : tie.Need-find-requires
+find-requires c κs = search needs
+
+enum-told : tie.Need-enum-told
+enum-told c = search needs
+
+enum-known-p : tie.Need-enum-known-p
+enum-known-p c = search needs
+
+-- the buffer is one of the image's
+found : (c : tie.After-p) → c .p .given .0 .0 < c .before .before .before .before .before .args .g .count
+found c = place-found _ _ _ _ _ (sym (c .before .before .find .ensures) ∙ c .p .given .1) .0
+
+mul-at : tie.Need-mul-at
+mul-at c = let s = c .before .before .before .before .before .before .before in let k = chunk-small (s .args .g) (s .pre .law) _ (found (c .before .before)) in omega arith
+
+add-end : tie.Need-add-end
+add-end c = let s = c .before .before .before .before .before .before .before .before in let k = chunk-small (s .args .g) (s .pre .law) _ (found (c .before .before .before)) in omega arith
+
+sub-held-chunk : tie.Need-sub-held-chunk
+sub-held-chunk c = search needs
+
+part-held-chunk-start : tie.Need-part-held-chunk-start
+part-held-chunk-start c = search needs
+
+part-held-chunk-end : tie.Need-part-held-chunk-end
+part-held-chunk-end c = let s = c .before .before .before .before .before .before .before .before in let k = chunk-inside (s .args .g) (s .pre .law) _ (found (c .before .before .before)) in let e = s .pre .heapLong in omega arith
+
+held-chunk-requires : tie.Need-held-chunk-requires
+held-chunk-requires c κs =
+    let p = c .before .before .before .before in
+    let s = p .before .before .before .before .before in
+    (lent-long (s .args .heap .now) (s .args .g) _ (s .pre .law) (s .pre .heapLong) (found p), (record { law = s .pre .law; heapLong = refl; recordsLong = s .pre .recordsLong }, found p))
+
+returns : tie.Need-returns
+unfolding heldAt
+returns c = (rw (← c .before .before .find .ensures, c .enum-told .given .1), tt)
+
+returns-2 : tie.Need-returns-2
+unfolding heldAt part
+returns-2 c =
+    let p = c .before .before .before .before .before in
+    let s = p .before .before .before .before .before in
+    let g = s .args .g in
+    let i = p .p .given .0 .0 in
+    let e : i * g .chunk + g .chunk - i * g .chunk ≡ g .chunk = omega arith in (
+      rw (← p .before .before .find .ensures, p .p .given .1)
+          (c .held-chunk .ensures .0 ∙ ap (λ (n : ℕ). heldChunk g (take n (drop (i * g .chunk) (s .args .heap .now))) (s .args .records .now) (s .args .address) i) e),
+      subst (λ (n : ℕ). HeldIf 48 n (length (s .args .records .now)) (c .held-chunk .result)) (sym (s .pre .heapLong)) (c .held-chunk .ensures .1),
+    )
+
+pub held-at-spec : {M : Type 1} → statement M
+held-at-spec =
+    tie.close
+    (tie.spec
+    find-requires
+    enum-told
+    enum-known-p
+    mul-at
+    add-end
+    sub-held-chunk
+    part-held-chunk-start
+    part-held-chunk-end
+    held-chunk-requires
+    returns
+    returns-2)

@@ -1,0 +1,52 @@
+-- "Free (address, size or whole, uptime, thread) refills the buffer, restores redzone and tag, puts the old head in next, and its record becomes the head."
+-- Assumes nothing.
+use mathlib.Core.Bool.{Bool, true, false}
+use mathlib.Core.List.{List}
+use Prim.Native.Nat.{ℕ, _+_, _*_}
+use lib.Dec.{eqb}
+use lib.Seq.{sets}
+use Rattle.words.specs.Word.{bytesOf}
+use Rattle.words.specs.Run.{pick}
+use Rattle.chunks.specs.Chunk.{freeChunk}
+use Rattle.chunks.specs.declared.chunk.Grant.{Grant}
+use Rattle.chunks.specs.declared.chunk.Grant.the-variants.{Whole, Sized}
+use Rattle.area.specs.Areas.{Areas, Result, refusedWith, withHead, stamped, recordAddress}
+use Rattle.area.specs.Record.{recordSize, nextAt}
+use Rattle.holding.specs.Holding.{heldOf, clientAt}
+use Rattle.area.specs.declared.refusal.Refusal.{Refusal}
+use Rattle.area.specs.declared.refusal.Refusal.the-variants.{OtherGrant}
+use Rattle.area.specs.declared.refusal.Outcome.{Outcome}
+use Rattle.area.specs.declared.refusal.Outcome.the-variants.{Done, Refused}
+use Rattle.holding.specs.declared.holding.Holding.{Holding}
+use Rattle.holding.specs.declared.holding.Held.{Held}
+use Rattle.holding.specs.declared.holding.Held.the-variants as held
+
+-- the same size, or whole both
+abbrev pub sameGrant : Grant → Grant → Bool
+sameGrant Whole Whole = true
+sameGrant Whole (Sized t) = false
+sameGrant (Sized s) Whole = false
+sameGrant (Sized s) (Sized t) = eqb s t
+
+-- "9: size or whole differs from the grant"
+abbrev pub freedBy : Held → Grant → Held
+freedBy (held.Buffer h) q = pick (sameGrant (h .grant) q) (held.Buffer h) (held.Refused OtherGrant)
+freedBy (held.Refused why) q = held.Refused why
+
+unfoldable pub freePlan : Areas → ℕ → Grant → Held
+freePlan a address q = freedBy (heldOf a address) q
+
+-- what is written: the free chunk, the record's next word, stamp and thread, the new head
+unfoldable pub freedAreas : Areas → ℕ → ℕ → Holding → Areas
+freedAreas a uptime thread h = record {
+  sheet = withHead (a .sheet) (recordAddress (h .sheet) (h .own));
+  heap = sets (a .heap) (clientAt h) (freeChunk (h .sheet .size) (recordAddress (h .sheet) (h .own)));
+  records = stamped (sets (a .records) (h .own * recordSize + nextAt) (bytesOf 4 (h .sheet .head))) (h .own) uptime thread;
+}
+
+abbrev pub freeBy : Areas → ℕ → ℕ → Held → Result Outcome
+freeBy a uptime thread (held.Buffer h) = record { answer = Done; areas = freedAreas a uptime thread h }
+freeBy a uptime thread (held.Refused why) = refusedWith (Refused why) a
+
+unfoldable pub freeOf : Areas → ℕ → Grant → ℕ → ℕ → Result Outcome
+freeOf a address q uptime thread = freeBy a uptime thread (freePlan a address q)

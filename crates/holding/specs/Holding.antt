@@ -1,0 +1,77 @@
+-- A buffer that a client holds, by its address: what free, store and show test alike. Assumes nothing.
+use mathlib.Core.List.{List}
+use Prim.Native.Nat.{ℕ, _*_}
+use lib.Dec.{eqb}
+use lib.ListN.{length}
+use Rattle.words.specs.Run.{pick}
+use Rattle.tags.specs.Tag.{patternOf}
+use Rattle.chunks.specs.Chunk.{tagAt, LawfulGrant}
+use Rattle.chunks.specs.Judge.{allocatedVerdict}
+use Rattle.tags.specs.Verdict.{verdictNumber, verdictValue}
+use Rattle.tags.specs.declared.tag.Pattern.{Pattern}
+use Rattle.tags.specs.declared.tag.Pattern.the-variants as pattern
+use Rattle.chunks.specs.declared.chunk.Grant.{Grant}
+use Rattle.chunks.specs.declared.chunk.Grant.the-variants.{Whole, Sized}
+use Rattle.tags.specs.declared.verdict.Verdict.{Verdict}
+use Rattle.tags.specs.declared.verdict.Verdict.the-variants as verdict
+use Rattle.area.specs.Areas.{Areas, Ready, chunkAt}
+use Rattle.area.specs.Place.{placeOf, placed}
+use Rattle.area.specs.Record.{recordSize, addressWord}
+use Rattle.area.specs.Sheet.{openedOf, onOpened}
+use Rattle.area.specs.declared.sheet.Sheet.{Sheet}
+use Rattle.area.specs.declared.refusal.Refusal.{Refusal}
+use Rattle.area.specs.declared.refusal.Refusal.the-variants.{NoSuchBuffer, Damage, NotAllocated}
+use Rattle.holding.specs.declared.holding.Holding.{Holding}
+use Rattle.holding.specs.declared.holding.Held.{Held}
+use Rattle.holding.specs.declared.holding.Held.the-variants.{Buffer, Refused}
+
+-- buffer i of an image with its record j and its grant
+abbrev pub holding : Sheet → ℕ → ℕ → Grant → Held
+holding g i j q = Buffer (record { sheet = g; buffer = i; own = j; grant = q })
+
+-- "7 with 27 or 28"; "Found as granted is 1 for a whole grant and 2 with s for a grant of s bytes"
+abbrev pub heldAs : Verdict → Sheet → ℕ → ℕ → Held
+heldAs v g i j =
+    pick (eqb (verdictNumber v) 1) (holding g i j Whole)
+    (pick (eqb (verdictNumber v) 2) (holding g i j (Sized (verdictValue v))) (Refused (Damage v)))
+
+-- "or neither pattern; 8", then the allocated chunk's own bytes
+abbrev pub heldBy : Pattern → List ℕ → Sheet → ℕ → ℕ → Held
+heldBy pattern.Neither c g i j = Refused (Damage verdict.BadTag)
+heldBy pattern.Free c g i j = Refused NotAllocated
+heldBy pattern.Allocated c g i j = heldAs (allocatedVerdict c) g i j
+
+-- "7 with 21 if T0 names no record, that record doesn't name this buffer", for the chunk c of buffer i at the address a
+unfoldable pub heldChunk : Sheet → List ℕ → List ℕ → ℕ → ℕ → Held
+heldChunk g c records a i =
+    placed (placeOf (g .records) recordSize (g .count) (tagAt c .t0))
+    (λ j. pick (eqb (addressWord records j) a) (heldBy (patternOf (tagAt c)) c g i j) (Refused (Damage verdict.BadTag)))
+    (Refused (Damage verdict.BadTag))
+
+-- "4: address not a buffer's start"
+unfoldable pub heldAt : Sheet → List ℕ → List ℕ → ℕ → Held
+heldAt g heap records a =
+    placed (placeOf (g .heap) (g .chunk) (g .count) a) (λ i. heldChunk g (chunkAt g heap i) records a i) (Refused NoSuchBuffer)
+
+-- "Free, store, show: 4; 7 ..; 8; 7 .."
+unfoldable pub heldOf : Areas → ℕ → Held
+heldOf a address = onOpened (openedOf (a .sheet) (length (a .heap)) (length (a .records))) (λ g. heldAt g (a .heap) (a .records) address) Refused
+
+-- "the client's own bytes ..: the first s, or all when whole": how many they are
+abbrev pub clientSize : Sheet → Grant → ℕ
+clientSize g Whole = g .size
+clientSize g (Sized s) = s
+
+-- where they start in the heap
+abbrev pub clientAt : Holding → ℕ
+clientAt h = h .buffer * h .sheet .chunk
+
+-- ---- what is known of a buffer that is held, in areas of s, h and r bytes
+
+pub record Holds (s h r : ℕ) (p : Holding) : Type 0 where
+  pub ready : Ready s h r (p .sheet) (p .buffer) (p .own)
+  pub granted : LawfulGrant (p .sheet .size) (p .grant)
+
+abbrev pub HeldIf : ℕ → ℕ → ℕ → Held → Type 0
+HeldIf s h r (Buffer p) = Holds s h r p
+HeldIf s h r (Refused why) = Unit {0}

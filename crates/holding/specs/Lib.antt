@@ -1,0 +1,4 @@
+pub mod Holding
+pub mod Free
+pub mod Store
+pub mod Show

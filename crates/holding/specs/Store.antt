@@ -1,0 +1,39 @@
+-- "Store writes bytes at an offset in an allocated buffer." Assumes nothing.
+use mathlib.Core.List.{List}
+use Prim.Native.Nat.{ℕ, _+_, _≤_}
+use lib.Dec.{leb}
+use lib.ListN.{length}
+use lib.Seq.{sets}
+use Rattle.words.specs.Run.{pick}
+use Rattle.area.specs.Areas.{Areas, Result, refusedWith}
+use Rattle.holding.specs.Holding.{heldOf, clientSize, clientAt}
+use Rattle.area.specs.declared.refusal.Refusal.the-variants.{PastClient}
+use Rattle.area.specs.declared.refusal.Outcome.{Outcome}
+use Rattle.area.specs.declared.refusal.Outcome.the-variants.{Done, Refused}
+use Rattle.holding.specs.declared.holding.Holding.{Holding}
+use Rattle.holding.specs.declared.holding.Held.{Held}
+use Rattle.holding.specs.declared.holding.Held.the-variants as held
+
+-- "10: offset plus length passes the client's bytes"; "An empty store at offset up to s is accepted."
+abbrev pub storedBy : Held → ℕ → ℕ → Held
+storedBy (held.Buffer h) offset len = pick (leb (offset + len) (clientSize (h .sheet) (h .grant))) (held.Buffer h) (held.Refused PastClient)
+storedBy (held.Refused why) offset len = held.Refused why
+
+unfoldable pub storePlan : Areas → ℕ → ℕ → ℕ → Held
+storePlan a address offset len = storedBy (heldOf a address) offset len
+
+-- what is written: the bytes, from the offset on
+unfoldable pub storedAreas : Areas → ℕ → List ℕ → Holding → Areas
+storedAreas a offset bytes h = record { sheet = a .sheet; heap = sets (a .heap) (clientAt h + offset) bytes; records = a .records }
+
+abbrev pub storeBy : Areas → ℕ → List ℕ → Held → Result Outcome
+storeBy a offset bytes (held.Buffer h) = record { answer = Done; areas = storedAreas a offset bytes h }
+storeBy a offset bytes (held.Refused why) = refusedWith (Refused why) a
+
+unfoldable pub storeOf : Areas → ℕ → ℕ → List ℕ → Result Outcome
+storeOf a address offset bytes = storeBy a offset bytes (storePlan a address offset (length bytes))
+
+-- what is known of a plan: the bytes lie in a heap of h bytes
+abbrev pub StoreIf : ℕ → ℕ → ℕ → Held → Type 0
+StoreIf h offset len (held.Buffer p) = (clientAt p + offset + len ≤ h) × (clientAt p + p .sheet .chunk ≤ 65536)
+StoreIf h offset len (held.Refused why) = Unit {0}

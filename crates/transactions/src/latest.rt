@@ -1,0 +1,172 @@
+// The latest transaction of a buffer: the row of the log or the record, whichever has the smallest age. Uptime wraps after
+// 49.7 days, so stamps are never compared, only their ages.
+ghost use mathlib.Core.Path.{_≡_};
+ghost use Prim.Native.Nat.{_+_, _*_, _≤_, _<_};
+ghost use lib.ListN.{length};
+ghost use Rattle.area.specs.Record.{recordSize};
+ghost use Rattle.area.specs.Sheet.{Open};
+ghost use Rattle.verdicts.specs.Pairing.{OwnIf, ownOf};
+ghost use Rattle.area.specs.Areas.{bufferAddress};
+ghost use Rattle.transactions.specs.Latest.{rowSize, considered, latestRow, firstBest, ownedLatest, indexedLatest, latestOf, LatestIf, latestPart};
+use area::place::Place;
+use area::record;
+use area::refusal::Refusal;
+use area::sheet;
+use area::sheet::Opened;
+use area::sheet::Sheet;
+use tags::verdict::Verdict;
+use verdicts::pairing;
+use verdicts::pairing::Own;
+use words::age;
+use words::word;
+
+const ROW: usize = 16;
+
+// What is latest so far: a row, or no row and so the record; and its age.
+pub struct Best {
+    pub row: Place,
+    pub age: u32,
+}
+
+// Where the latest transaction stands: a row of the log or a record, or why there is none.
+pub enum Transaction {
+    Row(usize),
+    Record(usize),
+    Refused(Refusal),
+}
+
+// What is latest once row k of the log is considered, for the record at an address.
+fn consider(log: &[u8], k: usize, record_at: u32, time: u32, best: Best) -> Best
+    requires { ⌜ k * rowSize + rowSize ≤ length (now log) ⌝ }
+    ensures { λ r. ⌜ r ≡ considered (now (log .entry)) «record_at» time k best ⌝ }
+{
+    let at = k * ROW;
+    if word::read_u32(log, at) != record_at {
+        return best;
+    }
+    let a = age::age(time, word::read_u32(log, at + 4));
+    if best.age < a {
+        return best;
+    }
+    Best {
+        row: Place::At(k),
+        age: a,
+    }
+}
+
+// What is latest of the record at an address, whose own stamp is given, and of the first n rows of the log.
+fn latest_row(log: &[u8], n: usize, record_at: u32, stamp: u32, time: u32) -> Best
+    requires { ⌜ n * rowSize ≤ length (now log) ⌝ }
+    ensures { λ r. ⌜ r ≡ latestRow (now (log .entry)) «record_at» time (firstBest stamp time) n ⌝ }
+{
+    let mut best = Best {
+        row: Place::Nowhere,
+        age: age::age(time, stamp),
+    };
+    let mut k = 0;
+    while k < n {
+        best = consider(log, k, record_at, time, best);
+        k += 1;
+    }
+    best
+}
+
+// The latest transaction of the buffer whose own record is j.
+fn latest_owned(records: &[u8], log: &[u8], g: Sheet, j: usize, time: u32) -> Transaction
+    requires { ⌜ Open (g .count * g .chunk) (length (now records)) g ⌝ }
+    requires { ⌜ j < g .count ⌝ }
+    requires { ⌜ length (now log) ≤ 16384 ⌝ }
+    ensures { λ r. ⌜ r ≡ ownedLatest g (now (records .entry)) (now (log .entry)) time j ⌝ }
+    ensures { λ r. ⌜ LatestIf (length (now (records .entry))) (length (now (log .entry))) r ⌝ }
+{
+    if record::read(records, g.records, j, record::STAMP_HIGH) != 0 {
+        return Transaction::Refused(Refusal::WideStamp);
+    }
+    let record_at = g.records + (j * record::SIZE) as u32;
+    let stamp = record::read(records, g.records, j, record::STAMP_LOW);
+    let best = latest_row(log, log.len() / ROW, record_at, stamp, time);
+    let row = best.row;
+    match row {
+        Place::At(k) => Transaction::Row(k),
+        Place::Nowhere => Transaction::Record(j),
+    }
+}
+
+// Buffer i's own record.
+fn own_of(records: &[u8], g: Sheet, i: usize) -> Own
+    requires { ⌜ Open (g .count * g .chunk) (length (now records)) g ⌝ }
+    requires { ⌜ i < g .count ⌝ }
+    ensures { λ r. ⌜ r ≡ ownOf (now (records .entry)) (g .count) (bufferAddress g i) ⌝ }
+    ensures { λ r. ⌜ OwnIf (g .count) r ⌝ }
+{
+    let mut pairs = [0u16; 512];
+    pairing::pair(records, g.records, g.heap, g.chunk, g.count, &mut pairs);
+    pairing::own_record(&pairs, i)
+}
+
+// The latest transaction of the buffer with an index, of an open image.
+fn latest_of(records: &[u8], log: &[u8], g: Sheet, index: u32, time: u32) -> Transaction
+    requires { ⌜ Open (g .count * g .chunk) (length (now records)) g ⌝ }
+    requires { ⌜ length (now log) ≤ 16384 ⌝ }
+    ensures { λ r. ⌜ r ≡ indexedLatest g (now (records .entry)) (now (log .entry)) index time ⌝ }
+    ensures { λ r. ⌜ LatestIf (length (now (records .entry))) (length (now (log .entry))) r ⌝ }
+{
+    let i = index as usize;
+    if i < g.count {
+        let own = own_of(records, g, i);
+        match own {
+            Own::NotOne => Transaction::Refused(Refusal::Damage(Verdict::NotOneRecord)),
+            Own::One(j) => latest_owned(records, log, g, j, time),
+        }
+    } else {
+        Transaction::Refused(Refusal::NoSuchBuffer)
+    }
+}
+
+// Where the latest transaction of the buffer with an index stands.
+pub fn find_latest(
+    sheet: &[u8],
+    heap: &[u8],
+    records: &[u8],
+    log: &[u8],
+    index: u32,
+    time: u32,
+) -> Transaction
+    ensures { λ r. ⌜ r ≡ latestOf (now (sheet .entry)) (now (heap .entry)) (now (records .entry)) (now (log .entry)) index time ⌝ }
+    ensures { λ r. ⌜ LatestIf (length (now (records .entry))) (length (now (log .entry))) r ⌝ }
+{
+    let opened = sheet::open_with_log(sheet, heap.len(), records.len(), log.len());
+    match opened {
+        Opened::Refused(why) => Transaction::Refused(why),
+        Opened::Image(g) => latest_of(records, log, g, index, time),
+    }
+}
+
+// The latest transaction itself, as a part of the log or of the record area; empty where it is refused.
+pub fn latest<'a>(
+    sheet: &[u8],
+    heap: &[u8],
+    records: &'a [u8],
+    log: &'a [u8],
+    index: u32,
+    time: u32,
+) -> &'a [u8]
+    ensures { λ r. ⌜ now r
+        ≡ latestPart (now (records .entry)) (now (log .entry))
+        (latestOf (now (sheet .entry)) (now (heap .entry)) (now (records .entry)) (now (log .entry)) index time) ⌝ }
+{
+    let found = find_latest(sheet, heap, records, log, index, time);
+    match found {
+        Transaction::Refused(_) => &log[0..0],
+        Transaction::Row(k) => {
+            let at = k * ROW;
+            let end = at + ROW;
+            &log[at..end]
+        }
+        Transaction::Record(j) => {
+            let at = j * record::SIZE;
+            let end = at + record::SIZE;
+            &records[at..end]
+        }
+    }
+}

@@ -1,0 +1,23 @@
+-- What lies whole in a window is read, and nothing else is, at any width. Assumes nothing.
+use mathlib.Core.Path.{_≡_}
+use mathlib.Core.List.{List}
+use Prim.Native.Nat.{ℕ, _+_, _-_, _≤_, _<_}
+use native.Mathlib.Omega.{arith}
+use borrow.Author.Tests.{le-leb, lt-leb}
+use lib.ListN.{length}
+use Rattle.words.specs.Word.{numberAt}
+use Rattle.window.specs.Window.{numberIn}
+use Rattle.window.specs.declared.Word.the-variants.{At, NoWord}
+
+module _ (width : ℕ) (bytes : List ℕ) (base a : ℕ) where
+  pub number-inside : base ≤ a → a + width ≤ base + length bytes → numberIn width bytes base a ≡ At (numberAt width bytes (a - base))
+  unfolding numberIn
+  number-inside h k = rw (le-leb base a h, le-leb (a - base + width) (length bytes) (omega arith))
+
+  pub number-below : a < base → numberIn width bytes base a ≡ NoWord
+  unfolding numberIn
+  number-below h = rw (lt-leb base a h)
+
+  pub number-past : base ≤ a → base + length bytes < a + width → numberIn width bytes base a ≡ NoWord
+  unfolding numberIn
+  number-past h k = rw (le-leb base a h, lt-leb (a - base + width) (length bytes) (omega arith))
