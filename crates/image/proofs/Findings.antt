@@ -32,7 +32,7 @@ use Rattle.image.specs.declared.inspect.Begun.{Begun}
 use Rattle.verdicts.specs.declared.pairing.Own.{Own}
 use Rattle.verdicts.specs.declared.pairing.Own.the-variants.{One, NotOne}
 use Rattle.verdicts.proofs.Chains as chains
-use Rattle.verdicts.proofs.Pairs.{own-below}
+use Rattle.verdicts.proofs.Pairs.{paired-in}
 
 -- ---- a row of findings
 
@@ -108,14 +108,6 @@ mark-met (suc k) = rw (ne-eqb (suc k) 0 (λ e. omega arith))
 marked-met : (n : ℕ) (c : Chain) (marks : List ℕ) (j : ℕ) → marks ≡ marksOf n (c .met) → j < n → marked marks j ≡ metBy c j
 marked-met n c marks j e h =
     ap (λ (m : List ℕ). not (eqb (getD m j 0) 0)) e ∙ ap (λ (x : ℕ). not (eqb x 0)) (chains.marked n (c .met) j h) ∙ mark-met (occ j (c .met))
-
-own-if : (records : List ℕ) (n a : ℕ) (o : Own) → ownOf records n a ≡ o → OwnIf n o
-own-if records n a (One j) e = own-below records n a j e
-own-if records n a NotOne e = tt
-
--- marks that say each own record say one of the n
-pub paired-in : (records : List ℕ) (base chunk n : ℕ) (pairs : List ℕ) → Paired records base chunk n pairs → PairedIn n pairs
-paired-in records base chunk n pairs p i h = own-if records n (placeAddress base chunk i) (ofMark (getD pairs i 0)) (sym (p i h))
 
 -- what is found by the marks is the finding
 module _ (g : Sheet) (heap records pairs marks : List ℕ) (few : g .count ≤ 512) (p : Paired records (g .heap) (g .chunk) (g .count) pairs) (e : marks ≡ marksOf 512 (imageChain g records .met)) where

@@ -12,7 +12,7 @@ use lib.ListN.{length, getD, set, replicate, getD-replicate}
 use lib.Seq.{getD-set-same, getD-set-other}
 use Rattle.area.specs.Place.{placeAddress}
 use Rattle.area.specs.Record.{addressWord}
-use Rattle.verdicts.specs.Pairing.{namers, theOne, ownOf, ofMark, noted}
+use Rattle.verdicts.specs.Pairing.{namers, theOne, ownOf, ofMark, noted, OwnIf, Paired, PairedIn}
 use Rattle.verdicts.specs.declared.pairing.Own.{Own}
 use Rattle.verdicts.specs.declared.pairing.Own.the-variants.{One, NotOne}
 use Rattle.area.proofs.Places.{same?, address-one}
@@ -93,3 +93,13 @@ module _ (word : ℕ → ℕ) (base chunk n : ℕ) where
   pub marks-all : (marks : List ℕ) → n ≤ 512 → Marks n marks → (i : ℕ) → i < n → ofMark (getD marks i 0) ≡ theOne (namers word n (placeAddress base chunk i))
   marks-all marks h v i l =
       ap ofMark (v i l) ∙ mark-says n (namers word n (placeAddress base chunk i)) h (λ j r e. first-below word n (placeAddress base chunk i) j r e)
+
+-- ---- what the marks say in the end
+
+own-if : (records : List ℕ) (n a : ℕ) (o : Own) → ownOf records n a ≡ o → OwnIf n o
+own-if records n a (One j) e = own-below records n a j e
+own-if records n a NotOne e = tt
+
+-- marks that say each own record say one of the n
+pub paired-in : (records : List ℕ) (base chunk n : ℕ) (pairs : List ℕ) → Paired records base chunk n pairs → PairedIn n pairs
+paired-in records base chunk n pairs p i h = own-if records n (placeAddress base chunk i) (ofMark (getD pairs i 0)) (sym (p i h))

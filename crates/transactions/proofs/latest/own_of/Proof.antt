@@ -2,8 +2,8 @@
 use mathlib.Core.Path.{refl, sym, _∙_, subst}
 use native.Mathlib.Omega.{arith}
 use borrow.Author.Needs.{needs}
-use Rattle.image.proofs.Findings.{paired-in}
 use Rattle.verdicts.specs.Pairing.{OwnIf}
+use Rattle.verdicts.proofs.Pairs.{paired-in}
 use Rattle.transactions.proofs.latest.own_of.Statement.{statement}
 use Rattle.transactions.proofs.latest.own_of.Tie as tie
 
