@@ -17,12 +17,11 @@ use Rattle.chunks.specs.declared.chunk.Grant.{Grant}
 use Rattle.chunks.specs.declared.chunk.Grant.the-variants.{Whole, Sized}
 use Rattle.tags.specs.declared.verdict.Verdict.{Verdict}
 use Rattle.tags.specs.declared.verdict.Verdict.the-variants as verdict
-use Rattle.area.specs.Areas.{Areas, Ready, Result, refusedWith, withHead, stamped, bufferAddress, recordAddress, chunkAt}
+use Rattle.opening.specs.Areas.{Areas, Ready, Result, refusedWith, withHead, bufferAddress, chunkAt}
+use Rattle.area.specs.Record.{stamped, recordSize, addressWord, nextWord}
 use Rattle.area.specs.Place.{placeOf, placed}
-use Rattle.area.specs.Record.{recordSize, addressWord, nextWord}
-use Rattle.area.specs.Sheet.{openedOf, onOpened}
-use Rattle.area.specs.declared.sheet.Sheet.{Sheet}
-use Rattle.area.specs.declared.refusal.Refusal.{Refusal}
+use Rattle.opening.specs.Sheet.{openedOf, onOpened}
+use Rattle.opening.specs.declared.sheet.Sheet.{Sheet}
 use Rattle.area.specs.declared.refusal.Refusal.the-variants.{NoRoom, BadSize, Damage, BrokenHead}
 use Rattle.allocation.specs.declared.allocate.Spot.{Spot}
 use Rattle.allocation.specs.declared.allocate.AllocatePlan.{AllocatePlan}

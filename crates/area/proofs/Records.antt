@@ -6,9 +6,8 @@ use native.Mathlib.Omega.{arith}
 use lib.Seq.{sets}
 use Rattle.words.specs.Word.{bytesOf, numberAt}
 use Rattle.words.proofs.Laws.{sets-three}
-use Rattle.area.specs.Areas.{stamped}
+use Rattle.area.specs.Record.{stamped, recordSize, recordWord, stampHighAt, stampLowAt, threadAt}
 use Rattle.area.specs.Place.{placeAddress}
-use Rattle.area.specs.Record.{recordSize, recordWord, stampHighAt, stampLowAt, threadAt}
 
 -- the word that stands `offset` bytes behind the address of record j is the record's word at that offset
 pub record-at : (l : List ℕ) (base address j offset : ℕ) → address ≡ placeAddress base recordSize j + offset → numberAt 4 l (address - base) ≡ recordWord l j offset

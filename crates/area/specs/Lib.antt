@@ -1,5 +1,3 @@
 pub mod Refusal
 pub mod Place
 pub mod Record
-pub mod Sheet
-pub mod Areas

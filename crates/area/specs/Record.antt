@@ -1,7 +1,8 @@
 -- The words of a record: "n records of 96 bytes .. : next at 0, buffer address 4, .. timestamp 16 (eight bytes), thread 24". Assumes nothing.
-use mathlib.Core.List.{List}
+use mathlib.Core.List.{List, _++_}
 use Prim.Native.Nat.{ℕ, _+_, _*_}
-use Rattle.words.specs.Word.{numberAt}
+use lib.Seq.{sets}
+use Rattle.words.specs.Word.{bytesOf, numberAt}
 
 abbrev pub recordSize : ℕ
 recordSize = 96
@@ -32,3 +33,7 @@ nextWord records j = recordWord records j nextAt
 -- the address word of record j: the buffer that it names
 abbrev pub addressWord : List ℕ → ℕ → ℕ
 addressWord records j = recordWord records j bufferAt
+
+-- "Both write timestamp (high four bytes 0, low four the uptime) and thread in the record.", in record j
+unfoldable pub stamped : List ℕ → ℕ → ℕ → ℕ → List ℕ
+stamped records j uptime thread = sets records (j * recordSize + stampHighAt) (bytesOf 4 0 ++ bytesOf 4 uptime ++ bytesOf 4 thread)

@@ -4,8 +4,7 @@ ghost use mathlib.Core.Path.{_≡_};
 ghost use Prim.Native.Nat.{_+_, _-_, _*_, _≤_};
 ghost use lib.ListN.{length};
 ghost use Rattle.words.specs.Word.{numberAt};
-ghost use Rattle.area.specs.Record.{recordSize, recordWord};
-ghost use Rattle.area.specs.Areas.{stamped};
+ghost use Rattle.area.specs.Record.{recordSize, recordWord, stamped};
 use window::Word;
 use words::word;
 

@@ -1,6 +1,6 @@
 // The calls that a client makes.
 ghost use mathlib.Core.Path.{_≡_};
-ghost use Rattle.area.specs.Areas.{areas};
+ghost use Rattle.opening.specs.Areas.{areas};
 ghost use Rattle.layout.specs.Layout.{layOutOf};
 ghost use Rattle.allocation.specs.Allocate.{allocateOf};
 ghost use Rattle.holding.specs.Free.{freeOf};

@@ -1,14 +1,10 @@
 -- The laws of chunks, and what the steps of the code come to. Assumes nothing.
-use mathlib.Core.Path.{_≡_, refl, ap, ap₂, _∙_}
-use mathlib.Core.Bool.{Bool, true, false, _&&_}
+use mathlib.Core.Path.{_≡_, refl, ap, _∙_}
+use mathlib.Core.Bool.{Bool, true, false}
 use mathlib.Core.List.{List, _++_}
-use Prim.Native.Nat.{ℕ, zero, suc, _+_, _-_, _*_, _/_, _%_, _≤_, _<_}
-use native.Mathlib.Nat.{mod-lt, div-add-mod', zero-lt-suc}
+use Prim.Native.Nat.{ℕ, _+_, _-_, _≤_}
 use native.Mathlib.Omega.{arith}
-use borrow.Author.Tests.{le-leb, leb-true}
-use lib.Arith.{bin-ind}
-use lib.Bits.{bitXor, differ, xor-step, xor-shr, xor-mod}
-use lib.Dec.{eqb, leb}
+use lib.Dec.{eqb}
 use lib.ListN.{length, getD, set, length-append, length-set}
 use lib.Seq.{sets}
 use Rattle.words.specs.Word.{part, bytesOf}
@@ -16,18 +12,15 @@ use Rattle.words.specs.Run.{pick, repeated, difference}
 use Rattle.words.specs.declared.run.Difference.{Difference}
 use Rattle.words.specs.declared.run.Difference.the-variants.{At, Nowhere}
 use Rattle.words.proofs.Laws.{sets-next, sets-whole, length-bytesOf, length-repeated, repeated-once}
-use Rattle.tags.specs.Tag.{tagOf, patternOf, patternWord, stateWord, statePattern}
 use Rattle.tags.specs.SizeCode.{decodedOf}
 use Rattle.tags.proofs.Laws.{decoded-within}
 use Rattle.chunks.specs.Chunk.{redzone, guard, bufferSize, chunkOf, freeChunk, grantedChunk}
 use Rattle.chunks.specs.Judge.{ifDiffers, r1Of, ofCode, zoneAfter, zoneVerdict, sizedVerdict, allocatedVerdict}
-use Rattle.tags.specs.declared.tag.State.{State}
 use Rattle.tags.specs.declared.size_code.Decoded.{Decoded}
 use Rattle.tags.specs.declared.size_code.Decoded.the-variants.{Size, Bad}
 use Rattle.chunks.specs.declared.chunk.Grant.{Grant}
 use Rattle.tags.specs.declared.verdict.Verdict.{Verdict}
 use Rattle.tags.specs.declared.verdict.Verdict.the-variants.{Whole, Allocated, Overrun}
-use Rattle.tags.specs.declared.tag.State.the-variants as state
 use Rattle.chunks.specs.declared.chunk.Grant.the-variants as grant
 
 -- ---- a chunk is written

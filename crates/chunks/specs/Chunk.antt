@@ -1,7 +1,7 @@
 -- "A chunk": its parts, and its bytes when it is free and when it is granted. Assumes nothing.
 use mathlib.Core.Path.{_≡_}
-use mathlib.Core.List.{List, [], _∷_, _++_}
-use Prim.Native.Nat.{ℕ, _+_, _-_, _*_, _%_, _≤_}
+use mathlib.Core.List.{List, _++_}
+use Prim.Native.Nat.{ℕ, _+_, _-_, _%_, _≤_}
 use lib.ListN.{length, set}
 use Rattle.words.specs.Word.{numberAt, bytesOf}
 use Rattle.words.specs.Run.{repeated}

@@ -1,6 +1,6 @@
 // The verdict on one chunk, by the rules of its pattern.
 ghost use mathlib.Core.Path.{_≡_};
-ghost use Prim.Native.Nat.{_≤_, _<_};
+ghost use Prim.Native.Nat.{_≤_};
 ghost use lib.ListN.{length};
 ghost use Rattle.words.specs.Word.{bytesOf};
 ghost use Rattle.chunks.specs.Chunk.{ChunkLength, bufferSize};

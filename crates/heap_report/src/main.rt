@@ -2,10 +2,10 @@
 // It reads no more than decides the answer: a sheet that is refused ends it, and of the log one byte more than is lawful.
 ghost use Prim.Native.Nat.{_≤_};
 ghost use lib.ListN.{length};
-use area::sheet;
-use area::sheet::Lengths;
 use libc::STDIN_FILENO;
 use libc::STDOUT_FILENO;
+use opening::sheet;
+use opening::sheet::Lengths;
 use report::answer;
 
 // Writes the first n bytes of a text to standard output.

@@ -1,7 +1,7 @@
 -- What is known of a buffer that is held. Assumes nothing.
-use mathlib.Core.Path.{_≡_, refl, ap, subst}
+use mathlib.Core.Path.{_≡_, refl, subst}
 use mathlib.Core.List.{List}
-use Prim.Native.Nat.{ℕ, _+_, _≤_, _<_}
+use Prim.Native.Nat.{ℕ, _+_, _≤_}
 use native.Mathlib.Omega.{arith}
 use Rattle.chunks.specs.Chunk.{bufferSize, LawfulGrant}
 use Rattle.chunks.specs.Judge.{allocatedVerdict}
@@ -12,11 +12,11 @@ use Rattle.chunks.specs.declared.chunk.Grant.the-variants as grant
 use Rattle.tags.specs.declared.verdict.Verdict.{Verdict}
 use Rattle.tags.specs.declared.verdict.Verdict.the-variants.{Free, Whole, Allocated, NotOneRecord, BadTag, FreedTwice, OffChain, OnChain, BadFill, BadRedzone, BadSizeCode, Overrun}
 use Rattle.chunks.proofs.Chunks.{allocated-within}
-use Rattle.area.specs.Areas.{Ready}
+use Rattle.opening.specs.Areas.{Ready}
 use Rattle.holding.specs.Holding.{heldAs, heldBy, HeldIf, Holds, clientSize, clientAt}
-use Rattle.area.specs.declared.sheet.Sheet.{Sheet}
+use Rattle.opening.specs.declared.sheet.Sheet.{Sheet}
 use Rattle.holding.specs.declared.holding.Holding.{Holding}
-use Rattle.area.proofs.Sheets.{chunk-inside, chunk-small}
+use Rattle.opening.proofs.Sheets.{chunk-inside, chunk-small}
 
 module _ (s h r : ℕ) (g : Sheet) (i j : ℕ) (ready : Ready s h r g i j) where
   held-as-if : (v : Verdict) → ((k : ℕ) → v ≡ Allocated k → (1 ≤ k) × (k ≤ g .size)) → HeldIf s h r (heldAs v g i j)

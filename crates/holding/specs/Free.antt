@@ -1,7 +1,6 @@
 -- "Free (address, size or whole, uptime, thread) refills the buffer, restores redzone and tag, puts the old head in next, and its record becomes the head."
 -- Assumes nothing.
 use mathlib.Core.Bool.{Bool, true, false}
-use mathlib.Core.List.{List}
 use Prim.Native.Nat.{ℕ, _+_, _*_}
 use lib.Dec.{eqb}
 use lib.Seq.{sets}
@@ -10,10 +9,9 @@ use Rattle.words.specs.Run.{pick}
 use Rattle.chunks.specs.Chunk.{freeChunk}
 use Rattle.chunks.specs.declared.chunk.Grant.{Grant}
 use Rattle.chunks.specs.declared.chunk.Grant.the-variants.{Whole, Sized}
-use Rattle.area.specs.Areas.{Areas, Result, refusedWith, withHead, stamped, recordAddress}
-use Rattle.area.specs.Record.{recordSize, nextAt}
+use Rattle.opening.specs.Areas.{Areas, Result, refusedWith, withHead, recordAddress}
+use Rattle.area.specs.Record.{stamped, recordSize, nextAt}
 use Rattle.holding.specs.Holding.{heldOf, clientAt}
-use Rattle.area.specs.declared.refusal.Refusal.{Refusal}
 use Rattle.area.specs.declared.refusal.Refusal.the-variants.{OtherGrant}
 use Rattle.area.specs.declared.refusal.Outcome.{Outcome}
 use Rattle.area.specs.declared.refusal.Outcome.the-variants.{Done, Refused}

@@ -2,7 +2,7 @@
 use mathlib.Core.List.{List, []}
 use Prim.Native.Nat.{ℕ, _+_, _≤_}
 use Rattle.words.specs.Word.{part}
-use Rattle.area.specs.Areas.{Areas}
+use Rattle.opening.specs.Areas.{Areas}
 use Rattle.holding.specs.Holding.{heldOf, clientSize, clientAt}
 use Rattle.holding.specs.declared.holding.Held.{Held}
 use Rattle.holding.specs.declared.holding.Held.the-variants as held

@@ -5,7 +5,7 @@ use lib.Dec.{leb}
 use lib.ListN.{length}
 use lib.Seq.{sets}
 use Rattle.words.specs.Run.{pick}
-use Rattle.area.specs.Areas.{Areas, Result, refusedWith}
+use Rattle.opening.specs.Areas.{Areas, Result, refusedWith}
 use Rattle.holding.specs.Holding.{heldOf, clientSize, clientAt}
 use Rattle.area.specs.declared.refusal.Refusal.the-variants.{PastClient}
 use Rattle.area.specs.declared.refusal.Outcome.{Outcome}

@@ -1,7 +1,7 @@
 // Free: a plan that only reads, and a commit that cannot fail.
 ghost use mathlib.Core.Path.{_≡_};
 ghost use lib.ListN.{length};
-ghost use Rattle.area.specs.Areas.{areas};
+ghost use Rattle.opening.specs.Areas.{areas};
 ghost use Rattle.holding.specs.Holding.{HeldIf, Holds};
 ghost use Rattle.holding.specs.Free.{sameGrant, freePlan, freedAreas, freeOf};
 use crate::holding;
@@ -10,9 +10,9 @@ use crate::holding::Holding;
 use area::record;
 use area::refusal::Outcome;
 use area::refusal::Refusal;
-use area::sheet;
 use chunks::chunk;
 use chunks::chunk::Grant;
+use opening::sheet;
 use words::word;
 
 // Whether two grants are the same size, or whole both.

@@ -1,7 +1,7 @@
 // Show: the client's own bytes, as a part of the heap.
 ghost use mathlib.Core.Path.{_≡_};
 ghost use lib.ListN.{length};
-ghost use Rattle.area.specs.Areas.{areas};
+ghost use Rattle.opening.specs.Areas.{areas};
 ghost use Rattle.holding.specs.Show.{shownOf, ShownIf, shownPart};
 use crate::holding;
 use crate::holding::Held;

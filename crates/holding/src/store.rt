@@ -1,8 +1,8 @@
 // Store: a plan that only reads, and a commit that cannot fail.
 ghost use mathlib.Core.Path.{_≡_};
-ghost use Prim.Native.Nat.{_+_, _*_, _≤_};
+ghost use Prim.Native.Nat.{_+_, _*_};
 ghost use lib.ListN.{length};
-ghost use Rattle.area.specs.Areas.{areas};
+ghost use Rattle.opening.specs.Areas.{areas};
 ghost use Rattle.holding.specs.Store.{storePlan, StoreIf, storeOf};
 use crate::holding;
 use crate::holding::Held;

@@ -13,17 +13,16 @@ use lib.ListN.{length, getD, set, drop, length-append, length-set, List·getD-ap
 use lib.Seq.{sets, sets-eq, getD-append-add, getD-set-same, getD-set-other}
 use Rattle.words.proofs.Laws.{sets-then}
 use Rattle.tags.specs.declared.verdict.Verdict.{Verdict}
-use Rattle.area.specs.Place.{placeAddress}
 use Rattle.verdicts.specs.Walk.{marksOf, mark}
 use Rattle.verdicts.specs.Chain.{Chain, occ}
-use Rattle.verdicts.specs.Pairing.{ownOf, ofMark, OwnIf, Paired, PairedIn}
+use Rattle.verdicts.specs.Pairing.{ofMark, OwnIf, Paired}
 use Rattle.verdicts.specs.Judge.{judged, marked, metBy, imageChain, verdictOf}
-use Rattle.area.specs.Sheet.{Lawful, Open, openedOf}
+use Rattle.opening.specs.Sheet.{Lawful, Open, openedOf}
 use Rattle.image.specs.Inspect.{findingOf, filled, inspectOf, Inspection, foundBy, started, Ready, Begins, numbersOf, rowsOf, tableOf, EndingIf, Small}
-use Rattle.area.specs.declared.sheet.Sheet.{Sheet}
+use Rattle.opening.specs.declared.sheet.Sheet.{Sheet}
 use Rattle.verdicts.specs.declared.chain.Ending.{Ending}
 use Rattle.verdicts.specs.declared.chain.Ending.the-variants as ending
-use Rattle.area.specs.declared.sheet.Opened.the-variants.{Image}
+use Rattle.opening.specs.declared.sheet.Opened.the-variants.{Image}
 use Rattle.area.specs.declared.refusal.Refusal.{Refusal}
 use Rattle.image.specs.declared.inspect.Inspected.the-variants.{Refused}
 use Rattle.image.specs.declared.inspect.Finding.{Finding}

@@ -8,10 +8,10 @@ use lib.Seq.{sets}
 use Rattle.words.specs.Run.{pick}
 use Rattle.tags.specs.Verdict.{verdictNumber, verdictValue}
 use Rattle.tags.specs.declared.verdict.Verdict.{Verdict}
-use Rattle.area.specs.Sheet.{Lawful, heapLength, openedOf, openedWithLog, onOpened}
+use Rattle.opening.specs.Sheet.{Lawful, heapLength, openedOf, openedWithLog, onOpened}
 use Rattle.verdicts.specs.Pairing.{ofMark, PairedIn}
 use Rattle.verdicts.specs.Judge.{judged, marked, verdictOf, imageChain}
-use Rattle.area.specs.declared.sheet.Sheet.{Sheet}
+use Rattle.opening.specs.declared.sheet.Sheet.{Sheet}
 use Rattle.verdicts.specs.declared.chain.Ending.{Ending}
 use Rattle.verdicts.specs.declared.chain.Ending.the-variants as ending
 use Rattle.area.specs.declared.refusal.Refusal.the-variants.{ShortOutput}

@@ -16,12 +16,12 @@ use Rattle.words.specs.Run.{pick, repeated}
 use Rattle.words.proofs.Laws.{part-left, part-right, part-all, sets-next, sets-three, sets-whole, length-bytesOf, below}
 use Rattle.chunks.specs.Chunk.{freeChunk}
 use Rattle.chunks.proofs.Chunks.{length-freeChunk}
-use Rattle.area.specs.Areas.{Areas, Result, refusedWith, bufferAddress, recordAddress}
+use Rattle.opening.specs.Areas.{Areas, Result, refusedWith, bufferAddress, recordAddress}
 use Rattle.area.specs.Record.{recordSize}
-use Rattle.area.specs.Sheet.{lawful, Lawful, lengthsRight, measured, numbered, onOpened, OpenedIf}
-use Rattle.area.specs.declared.sheet.Sheet.{Sheet}
-use Rattle.area.specs.declared.sheet.Opened.{Opened}
-use Rattle.area.specs.declared.sheet.Opened.the-variants as opened
+use Rattle.opening.specs.Sheet.{lawful, Lawful, lengthsRight, measured, numbered, onOpened, OpenedIf}
+use Rattle.opening.specs.declared.sheet.Sheet.{Sheet}
+use Rattle.opening.specs.declared.sheet.Opened.{Opened}
+use Rattle.opening.specs.declared.sheet.Opened.the-variants as opened
 use Rattle.area.specs.declared.refusal.Refusal.the-variants.{BadSheet, BadNumber, BadLength}
 use Rattle.area.specs.declared.refusal.Outcome.{Outcome}
 use Rattle.area.specs.declared.refusal.Outcome.the-variants.{Done, Refused}

@@ -8,11 +8,11 @@ use lib.ListN.{length, replicate}
 use Rattle.words.specs.Word.{bytesOf}
 use Rattle.words.specs.Run.{pick}
 use Rattle.chunks.specs.Chunk.{freeChunk}
-use Rattle.area.specs.Areas.{Areas, Result, refusedWith, bufferAddress, recordAddress}
-use Rattle.area.specs.Sheet.{lawful, lengthsRight, numbered, Open}
-use Rattle.area.specs.declared.sheet.Sheet.{Sheet}
-use Rattle.area.specs.declared.sheet.Opened.{Opened}
-use Rattle.area.specs.declared.sheet.Opened.the-variants as opened
+use Rattle.opening.specs.Areas.{Areas, Result, refusedWith, bufferAddress, recordAddress}
+use Rattle.opening.specs.Sheet.{lawful, lengthsRight, numbered, Open}
+use Rattle.opening.specs.declared.sheet.Sheet.{Sheet}
+use Rattle.opening.specs.declared.sheet.Opened.{Opened}
+use Rattle.opening.specs.declared.sheet.Opened.the-variants as opened
 use Rattle.area.specs.declared.refusal.Refusal.the-variants.{BadSheet, BadNumber, BadLength}
 use Rattle.area.specs.declared.refusal.Outcome.{Outcome}
 use Rattle.area.specs.declared.refusal.Outcome.the-variants.{Done, Refused}

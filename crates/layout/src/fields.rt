@@ -4,9 +4,9 @@ ghost use mathlib.Core.List.{_++_};
 ghost use Prim.Native.Nat.{_+_, _≤_};
 ghost use lib.ListN.{length};
 ghost use lib.Seq.{sets};
-ghost use Rattle.area.specs.Sheet.{Lawful};
+ghost use Rattle.opening.specs.Sheet.{Lawful};
 ghost use Rattle.layout.specs.Layout.{field, sheetBytes};
-use area::sheet::Sheet;
+use opening::sheet::Sheet;
 use words::word;
 
 // Writes a field whose body is a number of two bytes.

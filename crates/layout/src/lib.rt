@@ -4,13 +4,13 @@
 // from record 0 on in order; any other request is refused, and every lent byte is as before.
 ghost use mathlib.Core.Path.{_≡_};
 ghost use lib.ListN.{length};
-ghost use Rattle.area.specs.Areas.{areas};
+ghost use Rattle.opening.specs.Areas.{areas};
 ghost use Rattle.layout.specs.Layout.{laidSheet, laidAreas, layOutOf, planOf, PlannedIf, Planned};
 use area::refusal::Outcome;
 use area::refusal::Refusal;
-use area::sheet;
-use area::sheet::Opened;
-use area::sheet::Sheet;
+use opening::sheet;
+use opening::sheet::Opened;
+use opening::sheet::Sheet;
 
 // The bytes of the sheet.
 mod fields;

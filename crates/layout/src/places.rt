@@ -5,13 +5,13 @@ ghost use Prim.Native.Nat.{_*_, _<_};
 ghost use lib.ListN.{length};
 ghost use lib.Seq.{sets};
 ghost use Rattle.chunks.specs.Chunk.{freeChunk};
-ghost use Rattle.area.specs.Areas.{recordAddress};
+ghost use Rattle.opening.specs.Areas.{recordAddress};
 ghost use Rattle.area.specs.Record.{recordSize};
-ghost use Rattle.area.specs.Sheet.{Lawful, heapLength, recordsLength};
+ghost use Rattle.opening.specs.Sheet.{Lawful, heapLength, recordsLength};
 ghost use Rattle.layout.specs.Layout.{linkTo, recordBytes, laidAreas};
 use area::record;
-use area::sheet::Sheet;
 use chunks::chunk;
+use opening::sheet::Sheet;
 use words::run;
 use words::word;
 

@@ -11,12 +11,12 @@ use lib.ListN.{length}
 use Rattle.chunks.specs.declared.chunk.Grant.{Grant}
 use Rattle.area.specs.Place.{placeOf}
 use Rattle.area.specs.Record.{nextWord}
-use Rattle.area.specs.Areas.{bufferAddress, recordAddress}
+use Rattle.opening.specs.Areas.{bufferAddress, recordAddress}
 use Rattle.layout.specs.Layout.{laidAreas}
 use Rattle.allocation.specs.Allocate.{lawfulSize}
 use Rattle.holding.specs.Free.{sameGrant}
 use Rattle.holding.specs.Store.{storedAreas}
-use Rattle.area.specs.declared.sheet.Sheet.{Sheet}
+use Rattle.opening.specs.declared.sheet.Sheet.{Sheet}
 use Rattle.area.specs.declared.place.Place.{Place}
 use Rattle.area.specs.declared.place.Place.the-variants as place
 use Rattle.area.proofs.Places.{address-one, place-found}

@@ -13,7 +13,7 @@ use Rattle.words.specs.Word.{part}
 use Rattle.words.proofs.Laws.{part-part}
 use Rattle.chunks.specs.declared.chunk.Grant.{Grant}
 use Rattle.chunks.specs.declared.chunk.Grant.the-variants as grant
-use Rattle.area.specs.Areas.{Areas, refusedWith, bufferAddress, recordAddress, chunkAt}
+use Rattle.opening.specs.Areas.{Areas, refusedWith, bufferAddress, recordAddress, chunkAt}
 use Rattle.area.specs.Place.{placeOf}
 use Rattle.area.specs.Record.{recordSize, addressWord}
 use Rattle.allocation.specs.Allocate.{lawfulSize, takenChunk, takenHead, takenOf, allocatePlan, grantedAreas, allocateOf}
@@ -21,7 +21,7 @@ use Rattle.holding.specs.Holding.{holding, heldAs, heldChunk, heldAt, heldOf, c
 use Rattle.holding.specs.Free.{sameGrant, freePlan, freedAreas, freeOf}
 use Rattle.holding.specs.Store.{storePlan, storedAreas, storeOf}
 use Rattle.holding.specs.Show.{shownOf}
-use Rattle.area.specs.declared.sheet.Sheet.{Sheet}
+use Rattle.opening.specs.declared.sheet.Sheet.{Sheet}
 use Rattle.area.specs.declared.place.Place.the-variants as place
 use Rattle.area.specs.declared.refusal.Refusal.the-variants.{NoSuchBuffer, NoRoom, BadSize, NotAllocated, OtherGrant, PastClient}
 use Rattle.area.specs.declared.refusal.Outcome.the-variants as outcome

@@ -14,10 +14,9 @@ use Rattle.chunks.specs.Chunk.{chunkOf, freeChunk, grantedChunk, tagAt}
 use Rattle.chunks.specs.Judge.{freeVerdict, allocatedVerdict, zoneVerdict, sizedVerdict}
 use Rattle.tags.specs.Verdict.{verdictNumber, verdictValue}
 use Rattle.chunks.specs.declared.chunk.Grant.the-variants as grant
-use Rattle.area.specs.Areas.{stamped}
-use Rattle.area.specs.Sheet.{fieldIs, shaped, sheetOf, sizesLawful, basesLawful, lawful, measured, numbered, openedOf}
+use Rattle.area.specs.Record.{stamped, recordWord}
+use Rattle.opening.specs.Sheet.{fieldIs, shaped, sheetOf, sizesLawful, basesLawful, lawful, measured, numbered, openedOf}
 use Rattle.area.specs.Place.{placeOf}
-use Rattle.area.specs.Record.{recordWord}
 use Rattle.layout.specs.Layout.{flat, linkTo, sheetBytes, recordBytes, laidAreas, layOutOf}
 use Rattle.allocation.specs.Allocate.{takenChunk, takenHead, takenOf, allocatePlan, grantedAreas, allocateOf}
 use Rattle.ledger.specs.Ledger.{allocate, resultOf, put, opened, run}

@@ -11,10 +11,10 @@ use Rattle.tags.specs.SizeCode.{codeOf, decodedOf}
 use Rattle.chunks.specs.Chunk.{grantFill, chunkOf, freeChunk, grantedChunk, tagAt}
 use Rattle.chunks.specs.Judge.{freeVerdict, zoneVerdict, sizedVerdict, allocatedVerdict}
 use Rattle.chunks.specs.declared.chunk.Grant.the-variants as grant
-use Rattle.area.specs.Areas.{Areas, stamped}
-use Rattle.area.specs.Sheet.{fieldIs, shaped, sheetOf, sizesLawful, basesLawful, lawful, measured, numbered, openedOf}
+use Rattle.opening.specs.Areas.{Areas}
+use Rattle.area.specs.Record.{stamped, recordWord}
+use Rattle.opening.specs.Sheet.{fieldIs, shaped, sheetOf, sizesLawful, basesLawful, lawful, measured, numbered, openedOf}
 use Rattle.area.specs.Place.{placeOf}
-use Rattle.area.specs.Record.{recordWord}
 use Rattle.layout.specs.Layout.{flat, linkTo, sheetBytes, recordBytes, laidAreas, laidSheet, layOutOf}
 use Rattle.allocation.specs.Allocate.{takenChunk, takenHead, takenOf, allocatePlan, grantedAreas, allocateOf}
 use Rattle.holding.specs.Holding.{heldChunk, heldAt, heldOf}

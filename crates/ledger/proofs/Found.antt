@@ -17,12 +17,12 @@ use Rattle.chunks.specs.declared.chunk.Grant.{Grant}
 use Rattle.chunks.specs.declared.chunk.Grant.the-variants as grant
 use Rattle.tags.specs.declared.verdict.Verdict.{Verdict}
 use Rattle.tags.proofs.Laws.{tag-pattern}
-use Rattle.area.specs.Areas.{Areas, bufferAddress, recordAddress}
+use Rattle.opening.specs.Areas.{Areas, bufferAddress, recordAddress}
 use Rattle.area.specs.Record.{addressWord}
 use Rattle.verdicts.specs.Chain.{occ}
 use Rattle.verdicts.specs.Pairing.{namers, theOne, ownOf}
 use Rattle.verdicts.specs.Judge.{chainedVerdict, ownedVerdict, judged, imageChain, verdictOf}
-use Rattle.area.specs.declared.sheet.Sheet.{Sheet}
+use Rattle.opening.specs.declared.sheet.Sheet.{Sheet}
 use Rattle.verdicts.specs.declared.chain.Ending.the-variants.{End}
 use Rattle.verdicts.specs.declared.pairing.Own.the-variants.{One}
 use Rattle.area.proofs.Places.{address-one}

@@ -18,15 +18,15 @@ use Rattle.tags.proofs.Laws.{and-true}
 use Rattle.chunks.proofs.Chunks.{length-freeChunk, length-grantedChunk}
 use Rattle.chunks.specs.declared.chunk.Grant.{Grant}
 use Rattle.chunks.specs.declared.chunk.Grant.the-variants as grant
-use Rattle.area.specs.Areas.{Areas, stamped, bufferAddress, recordAddress, chunkAt}
-use Rattle.area.specs.Record.{recordSize, recordWord, nextWord}
+use Rattle.opening.specs.Areas.{Areas, bufferAddress, recordAddress, chunkAt}
+use Rattle.area.specs.Record.{stamped, recordSize, recordWord, nextWord}
 use Rattle.verdicts.specs.Chain.{occ}
 use Rattle.verdicts.specs.Walk.{Linked}
 use Rattle.allocation.specs.Allocate.{lawfulSize, grantedAreas}
 use Rattle.holding.specs.Free.{freedAreas}
 use Rattle.holding.specs.Store.{storedAreas}
-use Rattle.area.specs.declared.sheet.Sheet.{Sheet}
-use Rattle.area.proofs.Sheets.{chunk-inside, record-inside}
+use Rattle.opening.specs.declared.sheet.Sheet.{Sheet}
+use Rattle.opening.proofs.Sheets.{chunk-inside, record-inside}
 use Rattle.verdicts.proofs.Chains.{occ-cons, occ-here, occ-apart, linked-same}
 use Rattle.ledger.specs.Ledger.{Loan, put, fresh, laidOver, grantSize, headed}
 use Rattle.ledger.proofs.Chunks.{chunkFor, LawfulLoan, grant-within, fresh-chunk, fresh-lawful, store-chunk, store-lawful}

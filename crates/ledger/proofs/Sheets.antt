@@ -7,11 +7,11 @@ use native.Mathlib.Omega.{arith}
 use borrow.Author.Tests.{eq-eqb}
 use Rattle.words.specs.Word.{part, number, bytesOf, numberAt}
 use Rattle.words.proofs.Laws.{number-bytesOf}
-use Rattle.area.specs.Areas.{withHead}
-use Rattle.area.specs.Sheet.{fieldIs, shaped, sheetOf, heapLength, recordsLength, lawful, measured, numbered, openedOf}
+use Rattle.opening.specs.Areas.{withHead}
+use Rattle.opening.specs.Sheet.{fieldIs, shaped, sheetOf, heapLength, recordsLength, lawful, measured, numbered, openedOf}
 use Rattle.layout.specs.Layout.{sheetBytes}
-use Rattle.area.specs.declared.sheet.Sheet.{Sheet}
-use Rattle.area.specs.declared.sheet.Opened.the-variants.{Image}
+use Rattle.opening.specs.declared.sheet.Sheet.{Sheet}
+use Rattle.opening.specs.declared.sheet.Opened.the-variants.{Image}
 use Rattle.ledger.specs.Ledger.{headed}
 
 pub sheet-shaped : (g : Sheet) → shaped (sheetBytes g) ≡ true

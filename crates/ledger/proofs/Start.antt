@@ -11,15 +11,15 @@ use lib.ListN.{length, replicate, length-append}
 use Rattle.words.specs.Word.{part, number, bytesOf, numberAt}
 use Rattle.words.specs.Run.{pick}
 use Rattle.words.proofs.Laws.{part-part, part-left, part-right, part-all, part-front, length-bytesOf}
-use Rattle.area.specs.Areas.{Areas, refusedWith, bufferAddress}
-use Rattle.area.specs.Sheet.{lawful, lengthsRight}
+use Rattle.opening.specs.Areas.{Areas, refusedWith, bufferAddress}
+use Rattle.opening.specs.Sheet.{lawful, lengthsRight}
 use Rattle.area.specs.Record.{recordWord, addressWord, nextWord}
 use Rattle.verdicts.specs.Walk.{Linked}
 use Rattle.layout.specs.Layout.{flat, linkTo, laidSheet, recordBytes, laidAreas, layOutOf}
-use Rattle.area.specs.declared.sheet.Sheet.{Sheet}
+use Rattle.opening.specs.declared.sheet.Sheet.{Sheet}
 use Rattle.area.specs.declared.refusal.Refusal.the-variants.{BadSheet, BadNumber, BadLength}
 use Rattle.area.specs.declared.refusal.Outcome.the-variants.{Done, Refused}
-use Rattle.area.proofs.Sheets.{lawful-known, buffer-word}
+use Rattle.opening.proofs.Sheets.{lawful-known, buffer-word}
 use Rattle.layout.proofs.Layouts.{length-flat, part-flat, link-in, link-out, length-recordBytes, laid-chunk, laid-long}
 use Rattle.ledger.proofs.Chunks.{word-back}
 use Rattle.ledger.proofs.Counts.{range, occ-within, occ-above}

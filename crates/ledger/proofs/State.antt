@@ -9,17 +9,17 @@ use native.Mathlib.Decide.{decLt}
 use native.Mathlib.Omega.{arith}
 use lib.ListN.{length}
 use Rattle.words.proofs.Laws.{below}
-use Rattle.area.specs.Areas.{Areas, bufferAddress, recordAddress, chunkAt}
-use Rattle.area.specs.Sheet.{heapLength, recordsLength, lawful, Lawful, openedOf}
+use Rattle.opening.specs.Areas.{Areas, bufferAddress, recordAddress, chunkAt}
+use Rattle.opening.specs.Sheet.{heapLength, recordsLength, lawful, Lawful, openedOf}
 use Rattle.area.specs.Place.{placeOf}
 use Rattle.area.specs.Record.{addressWord, nextWord}
 use Rattle.verdicts.specs.Chain.{occ}
 use Rattle.verdicts.specs.Walk.{Linked}
 use Rattle.layout.specs.Layout.{sheetBytes}
-use Rattle.area.specs.declared.sheet.Sheet.{Sheet}
-use Rattle.area.specs.declared.sheet.Opened.the-variants.{Image}
+use Rattle.opening.specs.declared.sheet.Sheet.{Sheet}
+use Rattle.opening.specs.declared.sheet.Opened.the-variants.{Image}
 use Rattle.area.specs.declared.place.Place.the-variants.{Nowhere}
-use Rattle.area.proofs.Sheets.{record-word}
+use Rattle.opening.proofs.Sheets.{record-word}
 use Rattle.ledger.specs.Ledger.{Loan, headed}
 use Rattle.ledger.proofs.Chunks.{chunkFor, LawfulLoan}
 use Rattle.ledger.proofs.Sheets.{Fits, sheet-opens}

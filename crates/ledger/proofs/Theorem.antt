@@ -10,14 +10,14 @@ use native.Mathlib.Omega.{arith}
 use Rattle.words.specs.Word.{part}
 use Rattle.tags.specs.Verdict.{verdictNumber}
 use Rattle.chunks.specs.declared.chunk.Grant.{Grant}
-use Rattle.area.specs.Areas.{Areas, Result, bufferAddress}
+use Rattle.opening.specs.Areas.{Areas, Result, bufferAddress}
 use Rattle.verdicts.specs.Chain.{Chain, occ}
 use Rattle.verdicts.specs.Pairing.{ownOf}
 use Rattle.verdicts.specs.Judge.{imageChain, verdictOf}
 use Rattle.layout.specs.Layout.{laidSheet}
 use Rattle.allocation.specs.Allocate.{lawfulSize, allocateOf}
 use Rattle.holding.specs.Show.{shownOf}
-use Rattle.area.specs.declared.sheet.Sheet.{Sheet}
+use Rattle.opening.specs.declared.sheet.Sheet.{Sheet}
 use Rattle.verdicts.specs.declared.pairing.Own.the-variants.{One}
 use Rattle.area.specs.declared.refusal.Refusal.the-variants.{NoRoom}
 use Rattle.allocation.specs.declared.allocate.Allocated.{Allocated}

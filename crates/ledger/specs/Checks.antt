@@ -14,7 +14,7 @@ use Rattle.tags.specs.declared.verdict.Verdict.{Verdict}
 use Rattle.tags.specs.declared.tag.State.{State}
 use Rattle.tags.specs.declared.tag.State.the-variants as state
 use Rattle.chunks.specs.declared.chunk.Grant.the-variants as grant
-use Rattle.area.specs.Areas.{Areas, areas}
+use Rattle.opening.specs.Areas.{Areas, areas}
 use Rattle.area.specs.Refusal.{refusalNumber}
 use Rattle.layout.specs.Layout.{layOutOf}
 use Rattle.allocation.specs.declared.allocate.Allocated.{Allocated}

@@ -17,8 +17,8 @@ use Rattle.chunks.specs.declared.chunk.Grant.{Grant}
 use Rattle.chunks.specs.declared.chunk.Grant.the-variants as grant
 use Rattle.tags.specs.declared.verdict.Verdict.{Verdict}
 use Rattle.tags.specs.declared.verdict.Verdict.the-variants as verdict
-use Rattle.area.specs.Areas.{Areas, Result, bufferAddress}
-use Rattle.area.specs.Sheet.{openedOf}
+use Rattle.opening.specs.Areas.{Areas, Result, bufferAddress}
+use Rattle.opening.specs.Sheet.{openedOf}
 use Rattle.verdicts.specs.Chain.{occ}
 use Rattle.verdicts.specs.Pairing.{ownOf}
 use Rattle.verdicts.specs.Judge.{imageChain, verdictOf}
@@ -27,8 +27,8 @@ use Rattle.allocation.specs.Allocate.{lawfulSize, allocateOf}
 use Rattle.holding.specs.Free.{freeOf}
 use Rattle.holding.specs.Store.{storeOf}
 use Rattle.holding.specs.Show.{shownOf}
-use Rattle.area.specs.declared.sheet.Sheet.{Sheet}
-use Rattle.area.specs.declared.sheet.Opened.the-variants.{Image}
+use Rattle.opening.specs.declared.sheet.Sheet.{Sheet}
+use Rattle.opening.specs.declared.sheet.Opened.the-variants.{Image}
 use Rattle.verdicts.specs.declared.chain.Ending.the-variants.{End}
 use Rattle.verdicts.specs.declared.pairing.Own.the-variants.{One}
 use Rattle.area.specs.declared.refusal.Refusal.the-variants.{NoRoom, NotAllocated}

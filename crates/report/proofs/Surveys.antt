@@ -12,22 +12,22 @@ use lib.ListN.{length, getD}
 use lib.Seq.{sets}
 use Rattle.words.specs.Run.{pick}
 use Rattle.tags.specs.Verdict.{verdictNumber, verdictValue}
-use Rattle.area.specs.Sheet.{openedWithLog, onOpened}
+use Rattle.opening.specs.Sheet.{openedWithLog, onOpened}
 use Rattle.verdicts.specs.Judge.{verdictOf, imageChain}
 use Rattle.image.specs.Inspect.{tableOf, surveyed, Surveying, surveyOf}
-use Rattle.area.specs.declared.sheet.Sheet.{Sheet}
-use Rattle.area.specs.declared.sheet.Opened.{Opened}
+use Rattle.opening.specs.declared.sheet.Sheet.{Sheet}
+use Rattle.opening.specs.declared.sheet.Opened.{Opened}
 use Rattle.image.specs.declared.inspect.Overview.{Overview}
 use Rattle.area.specs.declared.refusal.Refusal.{Refusal}
 use Rattle.area.specs.declared.refusal.Refusal.the-variants.{ShortOutput}
-use Rattle.area.proofs.Sheets.{logged-law}
+use Rattle.opening.proofs.Sheets.{logged-law}
 use Rattle.image.proofs.Findings.{finding}
-use Rattle.report.specs.Text.{textOf, linesOf, faultsIn, rowNumber, rowValue, writtenOf, outputOf}
+use Rattle.lines.specs.Text.{textOf, linesOf, faultsIn, rowNumber, rowValue, writtenOf, outputOf}
 use Rattle.report.specs.Answer.{reportText, Reporting, reportOf}
 use Rattle.report.specs.declared.answer.Reported.the-variants.{Length, Refused}
-use Rattle.area.specs.declared.sheet.Opened.the-variants as opened
+use Rattle.opening.specs.declared.sheet.Opened.the-variants as opened
 use Rattle.image.specs.declared.inspect.Surveyed.the-variants as surveys
-use Rattle.report.specs.declared.text.Written.the-variants as written
+use Rattle.lines.specs.declared.text.Written.the-variants as written
 
 module _ (f g u v : ℕ → ℕ) where
   lines-same : (n : ℕ) → ((i : ℕ) → i < n → f i ≡ g i) → ((i : ℕ) → i < n → u i ≡ v i) → linesOf f u n ≡ linesOf g v n

@@ -6,15 +6,14 @@ use lib.ListN.{length}
 use lib.Seq.{sets}
 use Rattle.words.specs.Run.{pick}
 use Rattle.tags.specs.Verdict.{verdictNumber, verdictValue}
-use Rattle.area.specs.Sheet.{openedWithLog, onOpened}
+use Rattle.opening.specs.Sheet.{openedWithLog, onOpened}
 use Rattle.verdicts.specs.Judge.{verdictOf, imageChain}
 use Rattle.area.specs.Refusal.{refusalNumber}
-use Rattle.area.specs.declared.sheet.Sheet.{Sheet}
-use Rattle.area.specs.declared.refusal.Refusal.{Refusal}
+use Rattle.opening.specs.declared.sheet.Sheet.{Sheet}
 use Rattle.area.specs.declared.refusal.Refusal.the-variants.{ShortOutput}
-use Rattle.report.specs.Text.{textOf, refusalLineOf, writtenOf, outputOf}
-use Rattle.report.specs.declared.text.Written.{Written}
-use Rattle.report.specs.declared.text.Written.the-variants as written
+use Rattle.lines.specs.Text.{textOf, refusalLineOf, writtenOf, outputOf}
+use Rattle.lines.specs.declared.text.Written.{Written}
+use Rattle.lines.specs.declared.text.Written.the-variants as written
 use Rattle.report.specs.declared.answer.Reported.{Reported}
 use Rattle.report.specs.declared.answer.Reported.the-variants.{Length, Refused}
 

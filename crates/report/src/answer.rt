@@ -3,11 +3,11 @@ ghost use mathlib.Core.Path.{_≡_};
 ghost use Prim.Native.Nat.{_≤_};
 ghost use lib.ListN.{length};
 ghost use Rattle.report.specs.Answer.{reportOf, ReportedIf, answerOf};
-use crate::text;
-use crate::text::Written;
 use area::refusal::Refusal;
 use image::inspect;
 use image::inspect::Surveyed;
+use lines::text;
+use lines::text::Written;
 
 // How long the report is, or why there is none.
 pub enum Reported {

@@ -11,15 +11,14 @@ use Rattle.words.specs.Run.{pick}
 use Rattle.words.specs.Age.{ageOf}
 use Rattle.tags.specs.declared.verdict.Verdict.the-variants.{NotOneRecord}
 use Rattle.area.specs.Record.{recordSize, recordWord, stampHighAt, stampLowAt}
-use Rattle.area.specs.Sheet.{openedWithLog, onOpened}
+use Rattle.opening.specs.Sheet.{openedWithLog, onOpened}
 use Rattle.verdicts.specs.Pairing.{ownOf}
-use Rattle.area.specs.Areas.{bufferAddress, recordAddress}
-use Rattle.area.specs.declared.sheet.Sheet.{Sheet}
+use Rattle.opening.specs.Areas.{bufferAddress, recordAddress}
+use Rattle.opening.specs.declared.sheet.Sheet.{Sheet}
 use Rattle.area.specs.declared.place.Place.{Place}
 use Rattle.area.specs.declared.place.Place.the-variants as place
 use Rattle.verdicts.specs.declared.pairing.Own.{Own}
 use Rattle.verdicts.specs.declared.pairing.Own.the-variants.{One, NotOne}
-use Rattle.area.specs.declared.refusal.Refusal.{Refusal}
 use Rattle.area.specs.declared.refusal.Refusal.the-variants.{NoSuchBuffer, Damage, WideStamp}
 use Rattle.transactions.specs.declared.latest.Best.{Best}
 use Rattle.transactions.specs.declared.latest.Transaction.{Transaction}

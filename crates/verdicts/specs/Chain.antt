@@ -4,10 +4,9 @@ use mathlib.Core.List.{List, [], _∷_}
 use Prim.Native.Nat.{ℕ, zero, suc, _+_}
 use lib.Dec.{eqb}
 use Rattle.words.specs.Run.{pick}
-use Rattle.area.specs.Place.{placeOf}
+use Rattle.area.specs.Place.{placeOf, placed}
 use Rattle.area.specs.Record.{recordSize, recordWord, nextAt}
 use Rattle.area.specs.declared.place.Place.{Place}
-use Rattle.area.specs.declared.place.Place.the-variants.{At, Nowhere}
 use Rattle.verdicts.specs.declared.chain.Ending.{Ending}
 use Rattle.verdicts.specs.declared.chain.Ending.the-variants.{End, Broken, Again}
 
@@ -28,18 +27,13 @@ stop e = record { met = []; ending = e }
 abbrev pub meets : ℕ → Chain → Chain
 meets i c = record { met = i ∷ c .met; ending = c .ending }
 
--- by the place that a word is the address of
-abbrev pub atPlace : Place → (ℕ → Chain) → Chain → Chain
-atPlace (At i) f c = f i
-atPlace Nowhere f c = c
-
 -- The chain from the word w, where the records `seen` are met already, `next j` is the next word of record j and `at w` the record whose address w is. The
 -- first argument only bounds the number of steps: with one more of them than there are records no chain runs out.
 unfoldable pub chainFrom : (ℕ → ℕ) → (ℕ → Place) → ℕ → List ℕ → ℕ → Chain
 chainFrom next at zero seen w = stop Broken
 chainFrom next at (suc k) seen w =
     pick (eqb w 0) (stop End)
-    (atPlace (at w) (λ i. pick (eqb (occ i seen) 0) (meets i (chainFrom next at k (i ∷ seen) (next i))) (stop (Again i))) (stop Broken))
+    (placed (at w) (λ i. pick (eqb (occ i seen) 0) (meets i (chainFrom next at k (i ∷ seen) (next i))) (stop (Again i))) (stop Broken))
 
 -- the chain from the head, of the n records in `records` at the address `base`
 unfoldable pub chainOf : List ℕ → ℕ → ℕ → ℕ → Chain

@@ -1,5 +1,5 @@
 -- "Verdicts, first rule that holds". Assumes nothing.
-use mathlib.Core.Bool.{Bool, true, false, _&&_, _||_, not}
+use mathlib.Core.Bool.{Bool, true, false, _&&_, not}
 use mathlib.Core.List.{List}
 use Prim.Native.Nat.{ℕ}
 use lib.Dec.{eqb}
@@ -12,10 +12,10 @@ use Rattle.tags.specs.declared.tag.Pattern.{Pattern}
 use Rattle.tags.specs.declared.tag.Pattern.the-variants as pattern
 use Rattle.tags.specs.declared.verdict.Verdict.{Verdict}
 use Rattle.tags.specs.declared.verdict.Verdict.the-variants.{NotOneRecord, BadTag, FreedTwice, OffChain, OnChain}
-use Rattle.area.specs.Areas.{bufferAddress, chunkAt, recordAddress}
+use Rattle.opening.specs.Areas.{bufferAddress, chunkAt, recordAddress}
 use Rattle.verdicts.specs.Chain.{Chain, occ, chainOf}
 use Rattle.verdicts.specs.Pairing.{ownOf}
-use Rattle.area.specs.declared.sheet.Sheet.{Sheet}
+use Rattle.opening.specs.declared.sheet.Sheet.{Sheet}
 use Rattle.verdicts.specs.declared.chain.Ending.{Ending}
 use Rattle.verdicts.specs.declared.chain.Ending.the-variants.{End, Broken, Again}
 use Rattle.verdicts.specs.declared.pairing.Own.{Own}

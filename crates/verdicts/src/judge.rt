@@ -1,18 +1,17 @@
 // The verdict on a buffer: the first rule that holds, given its own record and the chain.
 ghost use mathlib.Core.Path.{_≡_};
-ghost use mathlib.Core.Bool.{Bool};
 ghost use Prim.Native.Nat.{_<_};
 ghost use lib.ListN.{length};
 ghost use Rattle.chunks.specs.Chunk.{ChunkLength};
-ghost use Rattle.area.specs.Sheet.{Lawful, heapLength};
+ghost use Rattle.opening.specs.Sheet.{Lawful, heapLength};
 ghost use Rattle.verdicts.specs.Judge.{ownedVerdict, chainedVerdict, againAt, judged, marked};
 ghost use Rattle.verdicts.specs.Pairing.{OwnIf};
 use crate::chain::Ending;
 use crate::pairing::Own;
 use area::record;
-use area::sheet::Sheet;
 use chunks::chunk;
 use chunks::judge;
+use opening::sheet::Sheet;
 use tags::tag::Pattern;
 use tags::verdict::Verdict;
 

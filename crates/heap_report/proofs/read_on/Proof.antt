@@ -1,7 +1,7 @@
 -- The lengths of a lawful sheet are those of the space that is read into. Assumes nothing.
 use mathlib.Core.Path.{subst}
 use borrow.Author.Needs.{needs}
-use Rattle.area.specs.Sheet.{LengthsIf}
+use Rattle.opening.specs.Sheet.{LengthsIf}
 use Rattle.heap_report.proofs.read_on.Statement.{statement}
 use Rattle.heap_report.proofs.read_on.Tie as tie
 

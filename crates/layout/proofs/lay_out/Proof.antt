@@ -1,7 +1,7 @@
 -- What the plan found is written; a refusal writes nothing. Assumes nothing.
 use mathlib.Core.Path.{refl, subst}
 use borrow.Author.Needs.{needs}
-use Rattle.area.specs.Areas.{areas}
+use Rattle.opening.specs.Areas.{areas}
 use Rattle.layout.specs.Layout.{PlannedIf}
 use Rattle.layout.proofs.Layouts.{by-plan}
 use Rattle.layout.proofs.lay_out.Statement.{statement}

@@ -4,7 +4,7 @@ use native.Mathlib.Omega.{arith}
 use borrow.Author.Needs.{needs}
 use lib.ListN.{length}
 use Rattle.allocation.specs.Allocate.{allocateOf, TakenIf, Takes}
-use Rattle.area.proofs.Sheets.{chunk-small, buffer-word}
+use Rattle.opening.proofs.Sheets.{chunk-small, buffer-word}
 use Rattle.allocation.proofs.allocate.allocate.Statement.{statement}
 use Rattle.allocation.proofs.allocate.allocate.Tie as tie
 

@@ -4,8 +4,8 @@ use Prim.Native.Nat.{ℕ}
 use native.Mathlib.Omega.{arith}
 use borrow.Author.Needs.{needs}
 use Rattle.allocation.specs.Allocate.{grantedAreas}
-use Rattle.area.specs.Areas.{withHead}
-use Rattle.area.proofs.Sheets.{chunk-inside, chunk-small, lent-size, lent-lawful, chunk-back}
+use Rattle.opening.specs.Areas.{withHead}
+use Rattle.opening.proofs.Sheets.{chunk-inside, chunk-small, lent-size, lent-lawful, chunk-back}
 use Rattle.chunks.proofs.Chunks.{length-grantedChunk}
 use Rattle.chunks.specs.Chunk.{LawfulGrant, grantedChunk}
 use Rattle.allocation.proofs.allocate.commit.Statement.{statement}

@@ -7,7 +7,7 @@ use lib.ListN.{length, take, drop}
 use Rattle.allocation.specs.Allocate.{takenChunk, takenHead}
 use Rattle.allocation.proofs.Takings.{spot-taken}
 use Rattle.area.proofs.Places.{place-found}
-use Rattle.area.proofs.Sheets.{chunk-inside, chunk-small, record-inside, record-word, lent-long}
+use Rattle.opening.proofs.Sheets.{chunk-inside, chunk-small, record-inside, record-word, lent-long}
 use Rattle.words.specs.Word.{part}
 use Rattle.allocation.proofs.allocate.take_head.Statement.{statement}
 use Rattle.allocation.proofs.allocate.take_head.Tie as tie

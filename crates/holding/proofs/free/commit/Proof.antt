@@ -6,10 +6,10 @@ use native.Mathlib.Omega.{arith}
 use borrow.Author.Needs.{needs}
 use lib.Seq.{sets}
 use Rattle.words.specs.Word.{bytesOf}
-use Rattle.area.specs.Record.{recordSize, nextAt}
+use Rattle.area.specs.Record.{recordSize, nextAt, stamped}
 use Rattle.holding.specs.Free.{freedAreas}
-use Rattle.area.specs.Areas.{recordAddress, stamped}
-use Rattle.area.proofs.Sheets.{chunk-inside, chunk-small, record-inside, record-word, lent-lawful, chunk-back}
+use Rattle.opening.specs.Areas.{recordAddress}
+use Rattle.opening.proofs.Sheets.{chunk-inside, chunk-small, record-inside, record-word, lent-lawful, chunk-back}
 use Rattle.chunks.proofs.Chunks.{length-freeChunk}
 use Rattle.chunks.specs.Chunk.{freeChunk}
 use Rattle.holding.proofs.free.commit.Statement.{statement}

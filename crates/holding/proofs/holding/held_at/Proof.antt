@@ -4,7 +4,7 @@ use Prim.Native.Nat.{ℕ, _+_, _*_, _-_, _<_}
 use native.Mathlib.Omega.{arith}
 use borrow.Author.Needs.{needs}
 use lib.ListN.{length, take, drop}
-use Rattle.area.proofs.Sheets.{chunk-inside, chunk-small, lent-long}
+use Rattle.opening.proofs.Sheets.{chunk-inside, chunk-small, lent-long}
 use Rattle.area.proofs.Places.{place-found}
 use Rattle.holding.specs.Holding.{heldChunk, heldAt, HeldIf}
 use Rattle.words.specs.Word.{part}

@@ -7,10 +7,10 @@ use borrow.Author.Needs.{needs}
 use lib.ListN.{length}
 use Rattle.chunks.specs.Chunk.{bufferSize, tagAt}
 use Rattle.holding.proofs.Holdings.{held-by-if}
-use Rattle.area.proofs.Sheets.{record-inside, record-word}
+use Rattle.opening.proofs.Sheets.{record-inside, record-word}
 use Rattle.area.proofs.Places.{place-found}
 use Rattle.holding.specs.Holding.{heldChunk, HeldIf}
-use Rattle.area.specs.Areas.{Ready}
+use Rattle.opening.specs.Areas.{Ready}
 use Rattle.tags.specs.Tag.{patternOf}
 use Rattle.holding.proofs.holding.held_chunk.Statement.{statement}
 use Rattle.holding.proofs.holding.held_chunk.Tie as tie

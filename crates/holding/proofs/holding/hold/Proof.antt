@@ -3,9 +3,9 @@ use mathlib.Core.Path.{sym, _∙_, subst}
 use Prim.Native.Nat.{ℕ}
 use borrow.Author.Needs.{needs}
 use lib.ListN.{length}
-use Rattle.area.proofs.Sheets.{opened-long}
+use Rattle.opening.proofs.Sheets.{opened-long}
 use Rattle.holding.specs.Holding.{heldOf, HeldIf}
-use Rattle.area.specs.Sheet.{OpenedIf}
+use Rattle.opening.specs.Sheet.{OpenedIf}
 use Rattle.holding.proofs.holding.hold.Statement.{statement}
 use Rattle.holding.proofs.holding.hold.Tie as tie
 

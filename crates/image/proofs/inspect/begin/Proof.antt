@@ -4,7 +4,7 @@ use native.Mathlib.Omega.{arith}
 use borrow.Author.Tests.{lt-leb}
 use borrow.Author.Needs.{needs}
 use lib.ListN.{length}
-use Rattle.area.specs.Sheet.{Open, OpenedIf}
+use Rattle.opening.specs.Sheet.{Open, OpenedIf}
 use Rattle.image.specs.Inspect.{inspectOf}
 use Rattle.image.proofs.Findings.{begins-refused, begins-image}
 use Rattle.image.proofs.inspect.begin.Statement.{statement}

@@ -50,7 +50,7 @@ use denote.Triple.Clauses.{ensured, lasts}
 use denote.Triple.Entry.{onEntry}
 use denote.Triple.Spec.{Meets, tripleOf}
 use denote.Triple.Table.{entered, cited}
-use denote.Triple.Walked.{says, Stays, stay-slice, stay-none-slice, walkOf, goes-slice, goes-none-slice, Walks, ends-at, walked, walk-meets}
+use denote.Triple.Walked.{Stays, stay-slice, stay-none-slice, walkOf, goes-slice, goes-none-slice, Walks, ends-at, walked, walk-meets}
 use denote.Exit.{yes}
 use borrow.Author.Tests.{lt-ltb, le-ltb}
 use Rattle.image.specs.Inspect.{Inspection, filled, foundBy, Begins}

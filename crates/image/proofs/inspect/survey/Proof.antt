@@ -7,7 +7,7 @@ use lib.ListN.{length}
 use Rattle.image.proofs.Findings.{survey-small}
 use Rattle.image.specs.Inspect.{surveyOf}
 use Rattle.image.specs.declared.inspect.Start.{Start}
-use Rattle.area.specs.Sheet.{Open, LoggedIf}
+use Rattle.opening.specs.Sheet.{Open, LoggedIf}
 use Rattle.image.proofs.inspect.survey.Statement.{statement}
 use Rattle.image.proofs.inspect.survey.Tie as tie
 

@@ -5,7 +5,7 @@ use borrow.Author.Tests.{le-leb, lt-leb}
 use borrow.Author.Needs.{needs}
 use lib.ListN.{length}
 use Rattle.image.specs.Inspect.{tabulateOf}
-use Rattle.area.specs.Sheet.{Open, OpenedIf}
+use Rattle.opening.specs.Sheet.{Open, OpenedIf}
 use Rattle.image.proofs.inspect.tabulate.Statement.{statement}
 use Rattle.image.proofs.inspect.tabulate.Tie as tie
 

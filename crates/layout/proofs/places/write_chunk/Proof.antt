@@ -4,8 +4,8 @@ use native.Mathlib.Omega.{arith}
 use borrow.Author.Needs.{needs}
 use Rattle.chunks.specs.Chunk.{freeChunk}
 use Rattle.chunks.proofs.Chunks.{length-freeChunk}
-use Rattle.area.specs.Areas.{recordAddress}
-use Rattle.area.proofs.Sheets.{chunk-inside, chunk-small, chunk-back}
+use Rattle.opening.specs.Areas.{recordAddress}
+use Rattle.opening.proofs.Sheets.{chunk-inside, chunk-small, chunk-back}
 use Rattle.layout.proofs.places.write_chunk.Statement.{statement}
 use Rattle.layout.proofs.places.write_chunk.Tie as tie
 

@@ -3,7 +3,7 @@ use mathlib.Core.Path.{refl, _∙_, ap}
 use native.Mathlib.Numerals.{add-one}
 use native.Mathlib.Omega.{arith}
 use borrow.Author.Needs.{needs}
-use Rattle.area.proofs.Sheets.{chunk-small, buffer-word}
+use Rattle.opening.proofs.Sheets.{chunk-small, buffer-word}
 use Rattle.layout.specs.Layout.{linkTo}
 use Rattle.layout.proofs.Layouts.{record-run}
 use Rattle.layout.proofs.places.write_record.Statement.{statement}

@@ -3,7 +3,7 @@ use mathlib.Core.Path.{refl, subst}
 use native.Mathlib.Omega.{arith}
 use borrow.Author.Needs.{needs}
 use Rattle.report.specs.Answer.{ReportedIf, answerOf}
-use Rattle.report.specs.Text.{WrittenIf}
+use Rattle.lines.specs.Text.{WrittenIf}
 use Rattle.report.proofs.answer.answer.Statement.{statement}
 use Rattle.report.proofs.answer.answer.Tie as tie
 

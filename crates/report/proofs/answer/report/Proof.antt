@@ -5,7 +5,7 @@ use borrow.Author.Needs.{needs}
 use lib.Dec.{lit≤}
 use Rattle.report.proofs.Surveys.{report-refused, report-image, written-short, written-length}
 use Rattle.report.specs.Answer.{Reporting}
-use Rattle.report.specs.Text.{textOf, rowNumber, rowValue, WrittenIf}
+use Rattle.lines.specs.Text.{textOf, rowNumber, rowValue, WrittenIf}
 use Rattle.image.specs.Inspect.{SurveyedIf}
 use Rattle.report.proofs.answer.report.Statement.{statement}
 use Rattle.report.proofs.answer.report.Tie as tie

@@ -2,7 +2,7 @@
 use mathlib.Core.Path.{refl, subst}
 use borrow.Author.Needs.{needs}
 use Rattle.transactions.specs.Latest.{latestOf}
-use Rattle.area.specs.Sheet.{LoggedIf}
+use Rattle.opening.specs.Sheet.{LoggedIf}
 use Rattle.transactions.proofs.latest.find_latest.Statement.{statement}
 use Rattle.transactions.proofs.latest.find_latest.Tie as tie
 

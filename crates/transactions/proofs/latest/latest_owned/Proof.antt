@@ -6,7 +6,7 @@ use borrow.Author.Tests.{eq-eqb, ne-eqb}
 use borrow.Author.Needs.{needs}
 use lib.ListN.{length}
 use Rattle.transactions.proofs.Transactions.{row-below}
-use Rattle.area.proofs.Sheets.{record-inside}
+use Rattle.opening.proofs.Sheets.{record-inside}
 use Rattle.transactions.specs.declared.latest.Best.{Best}
 use Rattle.transactions.specs.Latest.{ownedLatest}
 use Rattle.transactions.proofs.latest.latest_owned.Statement.{statement}

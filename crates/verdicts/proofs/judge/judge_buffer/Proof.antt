@@ -6,12 +6,12 @@ use borrow.Author.Needs.{needs}
 use lib.ListN.{take, drop}
 use Rattle.verdicts.specs.Pairing.{OwnIf}
 use Rattle.verdicts.specs.Judge.{ownedVerdict, marked, judged}
-use Rattle.area.specs.Areas.{recordAddress}
+use Rattle.opening.specs.Areas.{recordAddress}
 use Rattle.words.specs.Word.{part}
 use Rattle.chunks.specs.Chunk.{ChunkLength}
-use Rattle.area.specs.Sheet.{heapLength}
-use Rattle.area.specs.declared.sheet.Sheet.{Sheet}
-use Rattle.area.proofs.Sheets.{chunk-inside, chunk-small, record-small, record-word, chunk-length}
+use Rattle.opening.specs.Sheet.{heapLength}
+use Rattle.opening.specs.declared.sheet.Sheet.{Sheet}
+use Rattle.opening.proofs.Sheets.{chunk-inside, chunk-small, record-small, record-word, chunk-length}
 use Rattle.verdicts.proofs.judge.judge_buffer.Statement.{statement}
 use Rattle.verdicts.proofs.judge.judge_buffer.Tie as tie
 

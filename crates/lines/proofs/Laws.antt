@@ -1,0 +1,130 @@
+-- The laws of the report's text: of runs of stores that may pass the output's end, of decimals, of the lines, and of all or nothing. Assumes nothing.
+use mathlib.Core.Path.{_≡_, refl, sym, ap, subst, _∙_}
+use mathlib.Core.List.{List, [], _∷_, _++_}
+use Prim.Native.Nat.{ℕ, zero, suc, _+_, _-_, _*_, _/_, _%_, _^_, _≤_, _<_}
+use native.Mathlib.Nat.{not-suc-le-zero, add-zero, zero-add, pow-suc, one-le-pow, pow-le-pow-right, lt-of-not-le}
+use native.Mathlib.Omega.{arith}
+use borrow.Author.Tests.{lt-ltb, le-ltb, le-leb, lt-leb}
+use lib.ListN.{length, getD, set, take, length-append}
+use lib.Seq.{sets, length-sets, set-out, take-suc, length-take-le}
+use Rattle.io.specs.Digits.{glyph, digits, Fewest}
+use Rattle.words.proofs.Laws.{sets-append}
+use Rattle.verdicts.specs.declared.chain.Ending.{Ending}
+use Rattle.lines.specs.Text.{decimalWith, headerOf, lineOf, linesOf, chainLineOf, faultOf, faultsIn, faultsOf, textOf, Wrote, writtenOf, outputOf}
+use Rattle.lines.specs.declared.text.Written.the-variants.{Length, Short}
+
+-- ---- runs of stores
+
+-- one element more of a piece
+pub sets-more : (l : List ℕ) (i : ℕ) (p : List ℕ) (k : ℕ) → k < length p → set (sets l i (take k p)) (i + k) (getD p k 0) ≡ sets l i (take (suc k) p)
+sets-more l i p k h =
+    ap (λ (j : ℕ). set (sets l i (take k p)) (i + j) (getD p k 0)) (sym (length-take-le k p (omega arith)))
+    ∙ sets-append l i (take k p) (getD p k 0 ∷ [])
+    ∙ ap (sets l i) (sym (take-suc p k 0 h))
+
+-- past the end nothing is stored
+pub sets-past : (l : List ℕ) (i : ℕ) (p : List ℕ) (k : ℕ) → k < length p → length l ≤ i + k → sets l i (take k p) ≡ sets l i (take (suc k) p)
+sets-past l i p k h out =
+    sym (set-out (sets l i (take k p)) (i + k) (getD p k 0) (subst (λ (n : ℕ). n ≤ i + k) (sym (length-sets l i (take k p))) out)) ∙ sets-more l i p k h
+
+-- nor is a whole run
+pub sets-out : (l : List ℕ) (i : ℕ) (p : List ℕ) → length l ≤ i → l ≡ sets l i p
+sets-out l i [] h = refl
+sets-out l i (x ∷ p) h =
+    sets-out l (suc i) p (omega arith) ∙ ap (λ (y : List ℕ). sets y (suc i) p) (sym (set-out l i x h))
+
+-- one piece, and then another
+pub then : {l m o a b : List ℕ} {at p q : ℕ} → Wrote l at a m p → Wrote m p b o q → Wrote l at (a ++ b) o q
+then {l} {m} {o} {a} {b} {at} {p} {q} v w = record {
+  filled = w .filled ∙ ap (λ (x : List ℕ). sets x p b) (v .filled) ∙ ap (λ (k : ℕ). sets (sets l at a) k b) (v .ends) ∙ sets-append l at a b;
+  ends = let h = length-append a b in let e = v .ends in let f = w .ends in omega arith;
+}
+
+pub wrote-none : (l : List ℕ) (at : ℕ) → Wrote l at [] l at
+wrote-none l at = record { filled = refl; ends = sym (add-zero at) }
+
+pub wrote-length : {l m a : List ℕ} {at p : ℕ} → Wrote l at a m p → length m ≡ length l
+wrote-length {l} {m} {a} {at} {p} w = ap length (w .filled) ∙ length-sets l at a
+
+-- ---- decimals
+
+digit : (d : ℕ) → d < 10 → glyph d ≡ 48 + d
+digit d h = simp (lt-ltb d 10 h)
+
+-- the fewest digits that hold a number are its decimal
+pub decimal-is : (fuel n r : ℕ) → n < fuel → Fewest 10 1 n r → decimalWith fuel n ≡ digits 10 r n
+unfolding decimalWith
+decimal-is zero n r l f = absurd (not-suc-le-zero l)
+decimal-is (suc fuel) n zero l f = absurd (not-suc-le-zero (f .0))
+decimal-is (suc fuel) n (suc zero) l f =
+    let h : n < 10 = f .1 in
+    let e : n % 10 ≡ n = omega arith in
+    simp (lt-ltb n 10 h) (ap (λ (d : ℕ). d ∷ []) (ap (λ (d : ℕ). 48 + d) (sym e) ∙ sym (digit (n % 10) (omega arith))))
+decimal-is (suc fuel) n (suc (suc k)) l f =
+    let one : 1 ≤ 10 ^ k = one-le-pow k 10 (omega arith) in
+    let p : 10 ^ suc k ≡ 10 ^ k * 10 = pow-suc 10 k in
+    let q : 10 ^ suc (suc k) ≡ 10 ^ suc k * 10 = pow-suc 10 (suc k) in
+    let up : n < 10 ^ suc (suc k) = f .1 in
+    let s : suc (suc k) - 1 ≡ suc k = omega arith in
+    let low : 10 ^ suc k ≤ n = subst (λ (j : ℕ). 10 ^ j ≤ n) s (f .2 (omega arith)) in
+    let t : suc k - 1 ≡ k = omega arith in
+    simp (le-ltb n 10 (omega arith))
+    (ap (λ (x : List ℕ). x ++ ((48 + n % 10) ∷ [])) (decimal-is fuel (n / 10) (suc k) (omega arith)
+    (omega arith, omega arith, λ _. subst (λ (j : ℕ). 10 ^ j ≤ n / 10) (sym t) (omega arith)))
+    ∙ ap (λ (d : ℕ). digits 10 (suc k) (n / 10) ++ (d ∷ [])) (sym (digit (n % 10) (omega arith))))
+
+-- a number of 64 bits has at most 20 digits
+pub digits-few : (n r : ℕ) → n < 2 ^ 64 → Fewest 10 1 n r → r ≤ 20
+digits-few n r h f =
+    let few : r < 21 =
+    lt-of-not-le (λ (l : 21 ≤ r).
+    let low : 10 ^ (r - 1) ≤ n = f .2 (omega arith) in
+    let p : 10 ^ 20 ≤ 10 ^ (r - 1) = pow-le-pow-right {n = 10} (omega arith) {i = 20} {j = r - 1} (omega arith) in omega arith) in
+    omega arith
+
+-- ---- the lines
+
+module _ (number value : ℕ → ℕ) where
+  pub lines-none : linesOf number value 0 ≡ []
+  unfolding linesOf
+  lines-none = refl
+
+  pub lines-more : (i : ℕ) → linesOf number value (suc i) ≡ linesOf number value i ++ lineOf i (number i) (value i)
+  unfolding linesOf
+  lines-more i = refl
+
+  -- the pieces, where all n lines are put and their faults counted
+  pub text-is : (i n faults met : ℕ) (ending : Ending) → i ≡ n → faults ≡ faultsIn number i
+      → headerOf ++ linesOf number value i ++ chainLineOf met ending ++ faultsOf faults ≡ textOf number value n met ending
+  unfolding textOf
+  text-is i n faults met ending e q = rw (q, e)
+
+module _ (number : ℕ → ℕ) where
+  pub faults-none : faultsIn number 0 ≡ 0
+  unfolding faultsIn
+  faults-none = refl
+
+  pub faults-more : (i : ℕ) → faultsIn number (suc i) ≡ faultsIn number i + faultOf (number i)
+  unfolding faultsIn
+  faults-more i = refl
+
+-- ---- all or nothing
+
+-- an empty output stays empty
+nothing-put : (m t o : List ℕ) (p : ℕ) → Wrote [] 0 t m p → m ++ o ≡ o
+nothing-put [] t o p w = refl
+nothing-put (x ∷ m) t o p w = let z : suc (length m) ≡ 0 = wrote-length w in absurd (omega arith)
+
+-- the two ends of a report, of which the first run only counted
+module _ (t o m : List ℕ) (need : ℕ) (w : Wrote [] 0 t m need) where
+  pub too-short : length (m ++ o) < need → (Short ≡ writtenOf t o) × (m ++ o ≡ outputOf t o)
+  too-short h =
+      let k = nothing-put m t o need w in
+      let l : length o < length t = omega (arith, ap length k, w .ends) in
+      simp (lt-leb (length t) (length o) l) (refl, k)
+
+  pub long-enough : need ≤ length (m ++ o) → (x : List ℕ) (r : ℕ) → Wrote (m ++ o) 0 t x r → (Length r ≡ writtenOf t o) × (x ≡ outputOf t o)
+  long-enough h x r v =
+      let k = nothing-put m t o need w in
+      let l : length t ≤ length o = omega (arith, ap length k, w .ends) in
+      simp (le-leb (length t) (length o) l) (ap Length (v .ends ∙ zero-add (length t)), v .filled ∙ ap (λ (y : List ℕ). sets y 0 t) k)

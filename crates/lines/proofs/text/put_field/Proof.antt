@@ -1,0 +1,29 @@
+-- The number is put, and the word behind it. Assumes nothing.
+use mathlib.Core.Path.{_≡_}
+use Prim.Native.Nat.{_+_}
+use native.Mathlib.Omega.{arith}
+use borrow.Author.Needs.{needs}
+use lib.ListN.{length}
+use Rattle.lines.proofs.Laws.{then}
+use Rattle.lines.proofs.text.put_field.Statement.{statement}
+use Rattle.lines.proofs.text.put_field.Tie as tie
+
+put-decimal-requires : tie.Need-put-decimal-requires
+put-decimal-requires c κs = search needs
+
+put-requires : tie.Need-put-requires
+put-requires c κs = search needs
+
+same-length : tie.Need-same-length
+same-length c = search needs
+
+returns : tie.Need-returns
+returns c =
+    let d = c .before .before .before .before .before .before .put-decimal in
+    let w = c .before .before .put in
+    let s = c .before .before .before .before .before .before .before .before .before .before in
+    let e : w .result ≡ d .result + length (s .args .word .now) = w .ensures .ends in
+    (then (d .ensures .0) (w .ensures), omega (arith, d .ensures .1, s .pre .1))
+
+pub put-field-spec : {M : Type 1} → statement M
+put-field-spec = tie.close (tie.spec put-decimal-requires put-requires same-length returns)

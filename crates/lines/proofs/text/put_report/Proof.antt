@@ -1,0 +1,150 @@
+-- The lines passed are put, and the faults among them counted; behind them stand the chain line and the last line. Assumes nothing.
+use mathlib.Core.Path.{_≡_, sym, ap, subst, _∙_}
+use mathlib.Core.List.{List}
+use Prim.Native.Nat.{ℕ, _+_, _*_, _-_, _≤_}
+use native.Mathlib.Numerals.{add-one}
+use native.Mathlib.Omega.{arith}
+use borrow.Author.Needs.{needs}
+use Rattle.lines.specs.Text.{linesOf, faultOf, faultsIn, textOf, rowNumber, rowValue, Wrote}
+use Rattle.lines.proofs.Laws.{then, wrote-none, wrote-length, lines-none, lines-more, faults-none, faults-more, text-is}
+use Rattle.lines.proofs.text.put_report.Statement.{statement}
+use Rattle.lines.proofs.text.put_report.Tie as tie
+
+abbrev Inv-loop : tie.InvT-loop
+Inv-loop output₀ rows n met ending at₀ faults₀ i₀ output at faults i =
+    (i ≤ n)
+    × (faults ≤ i)
+    × (at ≤ 14 + 120 * i)
+    × (faults ≡ faultsIn (rowNumber rows) i)
+    × Wrote output₀ at₀ (linesOf (rowNumber rows) (rowValue rows) i) output at
+
+abbrev μ-loop : tie.MeasureT-loop
+μ-loop output₀ rows n met ending at₀ faults₀ i₀ output at faults i = n - i
+
+put-header-requires : tie.Need-put-header-requires Inv-loop μ-loop
+put-header-requires c κs = search needs
+
+loop-holds : tie.Need-loop-holds Inv-loop μ-loop
+loop-holds c =
+    let h = c .before .before .put-header in
+    let r = c .before .before .before .before .before .before .args .rows .now in
+    let none = sym (lines-none (rowNumber r) (rowValue r)) in (
+      search needs,
+      search needs,
+      omega (arith, h .ensures .1),
+      sym (faults-none (rowNumber r)),
+      subst (λ (x : List ℕ). Wrote (h .last .0) (h .result) x (h .last .0) (h .result)) none (wrote-none (h .last .0) (h .result)),
+    )
+
+mul-number : tie.Need-mul-number Inv-loop μ-loop
+mul-number c = search needs
+
+add-number : tie.Need-add-number Inv-loop μ-loop
+add-number c = search needs
+
+mul-number-2 : tie.Need-mul-number-2 Inv-loop μ-loop
+mul-number-2 c = search needs
+
+shared-slice-read-number : tie.Need-shared-slice-read-number Inv-loop μ-loop
+shared-slice-read-number c = search needs
+
+mul-put-line : tie.Need-mul-put-line Inv-loop μ-loop
+mul-put-line c = search needs
+
+add-put-line : tie.Need-add-put-line Inv-loop μ-loop
+add-put-line c = search needs
+
+mul-put-line-2 : tie.Need-mul-put-line-2 Inv-loop μ-loop
+mul-put-line-2 c = search needs
+
+shared-slice-read-put-line : tie.Need-shared-slice-read-put-line Inv-loop μ-loop
+shared-slice-read-put-line c = search needs
+
+put-line-requires : tie.Need-put-line-requires Inv-loop μ-loop
+put-line-requires c κs = search needs
+
+fault-requires : tie.Need-fault-requires Inv-loop μ-loop
+fault-requires c κs = search needs
+
+add-faults : tie.Need-add-faults Inv-loop μ-loop
+add-faults c = search needs
+
+add-i : tie.Need-add-i Inv-loop μ-loop
+add-i c = search needs
+
+loop-less : tie.Need-loop-less Inv-loop μ-loop
+loop-less c = search needs
+
+loop-again : tie.Need-loop-again Inv-loop μ-loop
+loop-again c =
+    let f = c .fault .ensures in
+    let w = c .before .before .before .put-line .ensures in
+    let l = c .before .before .before .before .before .before .before .before .loop in
+    let r = c .before .before .before .before .before .before .before .before .before .before .before .before .before .before .before .args .rows .now in
+    let e = l .inv in (
+      search needs,
+      omega (arith, f .1, e .1),
+      omega (arith, w .1, e .2),
+      rw (add-one, faults-more (rowNumber r)) (ap (λ (x : ℕ). l .faults + x) (f .0) ∙ ap (λ (x : ℕ). x + faultOf (rowNumber r (l .i))) (e .3)),
+      rw (add-one, lines-more (rowNumber r) (rowValue r)) (then (e .4) (w .0)),
+    )
+
+put-chain-requires : tie.Need-put-chain-requires Inv-loop μ-loop
+put-chain-requires c κs = search needs
+
+put-faults-requires : tie.Need-put-faults-requires Inv-loop μ-loop
+put-faults-requires c κs = search needs
+
+-- the whole report, at the function's end
+whole : (c : tie.After-slice-known5 Inv-loop μ-loop) →
+    let a = c .before .before .before .before .before .before .before .before .before .before .before .before .before .before .before .before .args in
+    let w = c .before .before .put-faults in
+    Wrote (a .output .now) 0 (textOf (rowNumber (a .rows .now)) (rowValue (a .rows .now)) (a .n) (a .met) (a .ending)) (w .last .0) (w .result)
+whole c =
+    let a = c .before .before .before .before .before .before .before .before .before .before .before .before .before .before .before .before .args in
+    let r = a .rows .now in
+    let h = c .before .before .before .before .before .before .before .before .before .before .before .before .put-header in
+    let l = c .before .before .before .before .before .before .before .before .before .loop in
+    let k = c .before .before .before .before .before .before .put-chain in
+    let w = c .before .before .put-faults in
+    let e : l .i ≡ a .n = omega (arith, c .before .before .before .before .before .before .before .before .loop-test .left, l .inv .0) in
+    subst (λ (x : List ℕ). Wrote (a .output .now) 0 x (w .last .0) (w .result))
+    (text-is (rowNumber r) (rowValue r) (l .i) (a .n) (l .faults) (a .met) (a .ending) e (l .inv .3))
+    (then (then (then (h .ensures .0) (l .inv .4)) (k .ensures .0)) (w .ensures .0))
+
+same-length : tie.Need-same-length Inv-loop μ-loop
+same-length c = wrote-length (whole c)
+
+returns : tie.Need-returns Inv-loop μ-loop
+returns c =
+    let l = c .before .before .before .before .before .before .before .before .before .loop .inv in
+    let k = c .before .before .before .before .before .before .put-chain .ensures .1 in
+    let w = c .before .before .put-faults .ensures .1 in
+    (whole c, omega (arith, l .0, l .2, k, w))
+
+pub put-report-spec : {M : Type 1} → statement M
+put-report-spec =
+    tie.close
+    (tie.spec
+    Inv-loop
+    μ-loop
+    put-header-requires
+    loop-holds
+    mul-number
+    add-number
+    mul-number-2
+    shared-slice-read-number
+    mul-put-line
+    add-put-line
+    mul-put-line-2
+    shared-slice-read-put-line
+    put-line-requires
+    fault-requires
+    add-faults
+    add-i
+    loop-less
+    loop-again
+    put-chain-requires
+    put-faults-requires
+    same-length
+    returns)

@@ -1,0 +1,118 @@
+-- The report's text as a list of bytes, in the words of document 01's "The report", and what becomes of an output. Assumes nothing.
+use mathlib.Core.Path.{_≡_}
+use mathlib.Core.Bool.{Bool, _||_}
+use mathlib.Core.List.{List, [], _∷_, _++_}
+use Prim.Native.Char.{code}
+use Prim.Native.Nat.{ℕ, zero, suc, _+_, _*_, _/_, _%_, _≤_}
+use Prim.Native.String.{String, [] as none, _∷_ as _then_}
+use lib.Dec.{eqb, leb, ltb}
+use lib.ListN.{length, getD}
+use lib.Seq.{sets}
+use Rattle.words.specs.Run.{pick}
+use Rattle.verdicts.specs.declared.chain.Ending.{Ending}
+use Rattle.verdicts.specs.declared.chain.Ending.the-variants.{End, Broken, Again}
+use Rattle.lines.specs.declared.text.Written.{Written}
+use Rattle.lines.specs.declared.text.Written.the-variants.{Length, Short}
+
+-- ---- pieces
+
+-- the codes of a text's characters, which for ASCII are its bytes
+abbrev pub ascii : String → List ℕ
+ascii none = []
+ascii (c then s) = code c ∷ ascii s
+
+-- "decimals without leading zeros": the digits of n, where `fuel` is more than n
+unfoldable pub decimalWith : ℕ → ℕ → List ℕ
+decimalWith zero n = []
+decimalWith (suc fuel) n = pick (ltb n 10) ((48 + n) ∷ []) (decimalWith fuel (n / 10) ++ ((48 + n % 10) ∷ []))
+
+abbrev pub decimalOf : ℕ → List ℕ
+decimalOf n = decimalWith (suc n) n
+
+-- a number, and a text behind it
+abbrev pub fieldOf : ℕ → String → List ℕ
+fieldOf n s = decimalOf n ++ ascii s
+
+-- ---- lines
+
+-- "A report's first line is always `heap report 1`."
+unfoldable pub headerOf : List ℕ
+headerOf = ascii "heap report 1\n"
+
+-- "for 25, 26 and 28, `I fault V OFFSET`"
+unfoldable pub hasOffset : ℕ → Bool
+hasOffset number = eqb number 25 || eqb number 26 || eqb number 28
+
+-- "`I fault V` or, for 25, 26 and 28, `I fault V OFFSET`"
+unfoldable pub faultLineOf : ℕ → ℕ → ℕ → List ℕ
+faultLineOf i number value =
+    pick (hasOffset number) (fieldOf i " fault " ++ fieldOf number " " ++ fieldOf value "\n") (fieldOf i " fault " ++ fieldOf number "\n")
+
+-- "Buffer lines are `I free`, `I whole`, `I allocated S`", or that of a fault: the line of buffer i, whose verdict has this number and this value, its size or
+-- its offset. Every verdict but 0, 1 and 2 is a fault: none has a number from 3 to 19.
+unfoldable pub lineOf : ℕ → ℕ → ℕ → List ℕ
+lineOf i number value =
+    pick (eqb number 0) (fieldOf i " free\n")
+    (pick (eqb number 1) (fieldOf i " whole\n")
+    (pick (eqb number 2) (fieldOf i " allocated " ++ fieldOf value "\n") (faultLineOf i number value)))
+
+-- the lines of buffers 0 to n - 1, "one line per item", where `number` and `value` tell each buffer's verdict
+unfoldable pub linesOf : (ℕ → ℕ) → (ℕ → ℕ) → ℕ → List ℕ
+linesOf number value zero = []
+linesOf number value (suc i) = linesOf number value i ++ lineOf i (number i) (value i)
+
+-- "The chain line is `chain K end`, `chain K broken` or `chain K again R`, K records met and R a record index."
+unfoldable pub chainLineOf : ℕ → Ending → List ℕ
+chainLineOf met End = ascii "chain " ++ fieldOf met " end\n"
+chainLineOf met Broken = ascii "chain " ++ fieldOf met " broken\n"
+chainLineOf met (Again r) = ascii "chain " ++ fieldOf met " again " ++ fieldOf r "\n"
+
+-- "A fault is a verdict of 20 or more."
+abbrev pub faultOf : ℕ → ℕ
+faultOf number = pick (ltb number 20) 0 1
+
+-- "`faults` counts fault lines only": how many of the first n there are
+unfoldable pub faultsIn : (ℕ → ℕ) → ℕ → ℕ
+faultsIn number zero = 0
+faultsIn number (suc i) = faultsIn number i + faultOf (number i)
+
+-- the last line
+unfoldable pub faultsOf : ℕ → List ℕ
+faultsOf count = ascii "faults " ++ fieldOf count "\n"
+
+-- "`refused N` and a line feed"
+unfoldable pub refusalLineOf : ℕ → List ℕ
+refusalLineOf number = ascii "refused " ++ fieldOf number "\n"
+
+-- ---- the report
+
+-- the report of n buffers, each with its verdict's number and value, and of a chain that met so many records and ended so
+unfoldable pub textOf : (ℕ → ℕ) → (ℕ → ℕ) → ℕ → ℕ → Ending → List ℕ
+textOf number value n met ending = headerOf ++ linesOf number value n ++ chainLineOf met ending ++ faultsOf (faultsIn number n)
+
+-- where verdicts stand three numbers to a buffer, index, number and value: the number and the value of buffer i
+abbrev pub rowNumber : List ℕ → ℕ → ℕ
+rowNumber rows i = getD rows (3 * i + 1) 0
+
+abbrev pub rowValue : List ℕ → ℕ → ℕ
+rowValue rows i = getD rows (3 * i + 2) 0
+
+-- ---- the output
+
+-- the text was put into `entry` from `at` on, as far as it goes, and ends at `next`
+pub record Wrote (entry : List ℕ) (at : ℕ) (text exit : List ℕ) (next : ℕ) : Type 0 where
+  pub filled : exit ≡ sets entry at text
+  pub ends : next ≡ at + length text
+
+-- all or nothing: "The call answers the length filled", or that the output is "shorter than the exact need"
+abbrev pub writtenOf : List ℕ → List ℕ → Written
+writtenOf text output = pick (leb (length text) (length output)) (Length (length text)) Short
+
+-- and "output past it stays"; an output that is too short stays as it was
+abbrev pub outputOf : List ℕ → List ℕ → List ℕ
+outputOf text output = pick (leb (length text) (length output)) (sets output 0 text) output
+
+-- what is known of the answer: the text fits an output of n bytes, and is not long
+abbrev pub WrittenIf : ℕ → Written → Type 0
+WrittenIf n (Length k) = (k ≤ n) × (k ≤ 65535)
+WrittenIf n Short = Unit {0}

@@ -1,0 +1,219 @@
+-- What is known of a sheet that passed its tests. Assumes nothing.
+use mathlib.Core.Path.{_≡_, refl, sym, ap, subst, _∙_}
+use mathlib.Core.Logic.{_⊎_, inl, inr}
+use mathlib.Core.Bool.{Bool, true, false, _&&_, _||_, and-assoc, and-true as and-right}
+use mathlib.Core.List.{List, _++_}
+use Prim.Native.Nat.{ℕ, _+_, _-_, _*_, _%_, _≤_, _<_}
+use lib.ListN.{length, take, drop}
+use lib.Seq.{sets}
+use native.Mathlib.Nat.{mul-le-mul}
+use native.Mathlib.Omega.{arith}
+use borrow.Author.Tests.{eqb-true, eqb-false, leb-true, not-true}
+use lib.Dec.{eqb, leb}
+use Rattle.words.specs.Word.{part}
+use Rattle.words.specs.Run.{pick}
+use Rattle.words.proofs.Laws.{below, length-part, part-back}
+use Rattle.chunks.specs.Chunk.{ChunkLength, bufferSize}
+use Rattle.tags.proofs.Laws.{and-true}
+use Rattle.area.specs.Record.{recordSize}
+use Rattle.opening.specs.Sheet.{fields, fieldsFrom, shaped, sheetOf, lengthsRight, measured, numbered, openedOf, openedWithLog, onOpened, logRight, sizesLawful, basesLawful, lawful, Lawful, heapLength, recordsLength}
+use Rattle.opening.specs.declared.sheet.Sheet.{Sheet}
+use Rattle.opening.specs.declared.sheet.Opened.{Opened}
+use Rattle.opening.specs.declared.sheet.Opened.the-variants.{Image, Refused}
+use Rattle.area.specs.declared.refusal.Refusal.the-variants.{BadSheet, BadNumber, BadLength}
+
+-- a product of bounded numbers
+pub product-below : (a b p q : ℕ) → a ≤ p → b ≤ q → a * b ≤ p * q
+product-below a b p q h k = mul-le-mul h k
+
+pub record Sizes (size chunk n flags : ℕ) : Type 0 where
+  pub eights : size % 8 ≡ 0
+  pub least : 8 ≤ size
+  pub most : size ≤ 4096
+  pub chunks : chunk ≡ size + 16
+  pub some : 1 ≤ n
+  pub few : n ≤ 512
+  pub area : n * chunk ≤ 65536
+  pub flagsAre : flags ≡ 0x020f
+
+pub sizes-known : (size chunk n flags : ℕ) → sizesLawful size chunk n flags ≡ true → Sizes size chunk n flags
+unfolding sizesLawful
+sizes-known size chunk n flags e =
+    let a = and-true _ _ e in
+    let b = and-true _ _ (a .0) in
+    let c = and-true _ _ (b .0) in
+    let d = and-true _ _ (c .0) in
+    let f = and-true _ _ (d .0) in
+    let g = and-true _ _ (f .0) in
+    let h = and-true _ _ (g .0) in
+    record {
+      eights = eqb-true _ _ (h .0);
+      least = leb-true _ _ (h .1);
+      most = leb-true _ _ (g .1);
+      chunks = eqb-true _ _ (f .1);
+      some = leb-true _ _ (d .1);
+      few = leb-true _ _ (c .1);
+      area = leb-true _ _ (b .1);
+      flagsAre = eqb-true _ _ (a .1);
+    }
+
+or-true : (a b : Bool) → a || b ≡ true → (a ≡ true) ⊎ (b ≡ true)
+or-true true b e = inl refl
+or-true false b e = inr e
+
+pub record Bases (heap records heapLen recordsLen : ℕ) : Type 0 where
+  pub heapSome : 0 < heap
+  pub heapEights : heap % 8 ≡ 0
+  pub recordsSome : 0 < records
+  pub recordsEights : records % 8 ≡ 0
+  pub heapFits : heap + heapLen ≤ 4294967296
+  pub recordsFit : records + recordsLen ≤ 4294967296
+  pub apart : (heap + heapLen ≤ records) ⊎ (records + recordsLen ≤ heap)
+
+pub bases-known : (heap records heapLen recordsLen : ℕ) → basesLawful heap records heapLen recordsLen ≡ true → Bases heap records heapLen recordsLen
+unfolding basesLawful
+bases-known heap records heapLen recordsLen e =
+    let a = and-true _ _ e in
+    let b = and-true _ _ (a .0) in
+    let c = and-true _ _ (b .0) in
+    let d = and-true _ _ (c .0) in
+    let f = and-true _ _ (d .0) in
+    let g = and-true _ _ (f .0) in
+    record {
+      heapSome = positive (eqb-false _ _ (not-true _ (g .0)));
+      heapEights = eqb-true _ _ (g .1);
+      recordsSome = positive (eqb-false _ _ (not-true _ (f .1)));
+      recordsEights = eqb-true _ _ (d .1);
+      heapFits = leb-true _ _ (c .1);
+      recordsFit = leb-true _ _ (b .1);
+      apart = either (or-true _ _ (a .1));
+    }
+  where
+    positive : {n : ℕ} → (n ≡ 0 → ⊥) → 0 < n
+    positive h = omega arith
+
+    either : (leb (heap + heapLen) records ≡ true) ⊎ (leb (records + recordsLen) heap ≡ true)
+        → (heap + heapLen ≤ records) ⊎ (records + recordsLen ≤ heap)
+    either (inl t) = inl (leb-true _ _ t)
+    either (inr t) = inr (leb-true _ _ t)
+
+pub lawful-known : (g : Sheet) → lawful g ≡ true → Lawful g
+unfolding lawful
+lawful-known g e =
+    let both = and-true (sizesLawful (g .size) (g .chunk) (g .count) (g .flags)) (basesLawful (g .heap) (g .records) (heapLength g) (recordsLength g)) e in
+    let s = sizes-known (g .size) (g .chunk) (g .count) (g .flags) (both .0) in
+    let b = bases-known (g .heap) (g .records) (heapLength g) (recordsLength g) (both .1) in
+    record {
+      eights = s .eights;
+      least = s .least;
+      most = s .most;
+      chunks = s .chunks;
+      some = s .some;
+      few = s .few;
+      area = s .area;
+      flagsAre = s .flagsAre;
+      heapSome = b .heapSome;
+      heapEights = b .heapEights;
+      recordsSome = b .recordsSome;
+      recordsEights = b .recordsEights;
+      heapFits = b .heapFits;
+      recordsFit = b .recordsFit;
+      apart = b .apart;
+    }
+
+-- eight tests in a row, as the code joins them and as the rule does
+pub eight : {a b c d e f g h a' b' c' d' e' f' g' h' : Bool} → a ≡ a' → b ≡ b' → c ≡ c' → d ≡ d' → e ≡ e' → f ≡ f' → g ≡ g' → h ≡ h'
+    → a && b && c && d && e && f && g && h ≡ a' && (b' && (c' && (d' && (e' && (f' && (g' && (h' && true)))))))
+eight ea eb ec ed ee ef eg eh = rw (ea, eb, ec, ed, ee, ef, eg, eh) (simp (and-assoc, and-right))
+
+pub shaped-long : (s : List ℕ) → shaped s ≡ true → length s ≡ 48
+unfolding shaped
+shaped-long s e = eqb-true (length s) 48 (and-true (eqb (length s) 48) (fieldsFrom fields 0 s) e .0)
+
+-- ---- places in the areas of a lawful sheet
+
+module _ (g : Sheet) (law : Lawful g) (i : ℕ) (h : i < g .count) where
+  pub chunk-inside : i * g .chunk + g .chunk ≤ heapLength g
+  chunk-inside = below (g .chunk) h
+
+  pub record-inside : i * recordSize + recordSize ≤ recordsLength g
+  record-inside = below recordSize h
+
+  pub chunk-small : i * g .chunk + g .chunk ≤ 65536
+  chunk-small = let k = chunk-inside in let a = law .area in omega arith
+
+  pub record-small : i * recordSize + recordSize ≤ 49152
+  record-small = let f = law .few in omega arith
+
+  -- a record's address is a word
+  pub record-word : g .records + i * recordSize + recordSize ≤ 4294967296
+  record-word = let k = record-inside in let f = law .recordsFit in omega arith
+
+  -- and so is a buffer's
+  pub buffer-word : g .heap + i * g .chunk + g .chunk ≤ 4294967296
+  buffer-word = let k = chunk-inside in let f = law .heapFits in omega arith
+
+-- the length of a chunk
+pub chunk-length : (g : Sheet) → Lawful g → ChunkLength (g .chunk)
+chunk-length g law = let e = law .chunks in let l = law .least in let m = law .most in let s = law .eights in record { least = omega arith; most = omega arith; eights = omega arith }
+
+-- ---- the chunk of buffer i, as it is lent and given back
+
+module _ (l : List ℕ) (g : Sheet) (i : ℕ) (law : Lawful g) (long : length l ≡ heapLength g) (h : i < g .count) where
+  span : i * g .chunk + g .chunk - i * g .chunk ≡ g .chunk
+  span = omega arith
+
+  inside : i * g .chunk + g .chunk ≤ length l
+  inside = let c = chunk-inside g law i h in omega arith
+
+  pub lent-long : length (take (i * g .chunk + g .chunk - i * g .chunk) (drop (i * g .chunk) l)) ≡ g .chunk
+  unfolding part
+  lent-long = ap (λ (n : ℕ). length (take n (drop (i * g .chunk) l))) span ∙ length-part l (i * g .chunk) (g .chunk) inside
+
+  pub lent-size : bufferSize (take (i * g .chunk + g .chunk - i * g .chunk) (drop (i * g .chunk) l)) ≡ g .size
+  lent-size = let e = lent-long in let c = law .chunks in omega arith
+
+  pub lent-lawful : ChunkLength (length (take (i * g .chunk + g .chunk - i * g .chunk) (drop (i * g .chunk) l)))
+  lent-lawful = subst ChunkLength (sym lent-long) (chunk-length g law)
+
+  -- a chunk f of the lent one's size comes back in its place
+  pub chunk-back : (f : ℕ → List ℕ) (ys : List ℕ) → ((n : ℕ) → length (f n) ≡ n + 16)
+      → ys ≡ f (bufferSize (take (i * g .chunk + g .chunk - i * g .chunk) (drop (i * g .chunk) l)))
+      → take (i * g .chunk) l ++ (ys ++ drop (i * g .chunk + g .chunk - i * g .chunk) (drop (i * g .chunk) l)) ≡ sets l (i * g .chunk) (f (g .size))
+  chunk-back f ys size e =
+      let c = law .chunks in
+      ap (λ (n : ℕ). take (i * g .chunk) l ++ (ys ++ drop n (drop (i * g .chunk) l))) span
+      ∙ ap (λ (vs : List ℕ). take (i * g .chunk) l ++ (vs ++ drop (g .chunk) (drop (i * g .chunk) l))) (e ∙ ap f lent-size)
+      ∙ part-back l (f (g .size)) (i * g .chunk) (g .chunk) (size (g .size) ∙ sym c) inside
+
+-- ---- an image that is open
+
+opened-law : (s : List ℕ) (h r : ℕ) (g : Sheet) → openedOf s h r ≡ Image g → Lawful g
+unfolding openedOf numbered measured
+opened-law s h r g e = go (shaped s) (lawful (sheetOf s)) (lengthsRight (sheetOf s) h r) refl e
+  where
+    go : (a b c : Bool) → lawful (sheetOf s) ≡ b → pick a (pick b (pick c (Image (sheetOf s)) (Refused BadLength)) (Refused BadNumber)) (Refused BadSheet) ≡ Image g
+        → Lawful g
+    go true true true l f = let z : sheetOf s ≡ g = cc in subst Lawful z (lawful-known (sheetOf s) l)
+    go true true false l f = absurd (let z : _≡_ {A = ℕ} 0 1 = cc in omega arith)
+    go true false c l f = absurd (let z : _≡_ {A = ℕ} 0 1 = cc in omega arith)
+    go false b c l f = absurd (let z : _≡_ {A = ℕ} 0 1 = cc in omega arith)
+
+-- a sheet that opens is 48 bytes long
+pub opened-long : (s : List ℕ) (h r : ℕ) (g : Sheet) → openedOf s h r ≡ Image g → length s ≡ 48
+unfolding openedOf
+opened-long s h r g e = go (shaped s) refl e
+  where
+    go : (a : Bool) → shaped s ≡ a → pick a (numbered (sheetOf s) h r) (Refused BadSheet) ≡ Image g → length s ≡ 48
+    go true q f = shaped-long s q
+    go false q f = absurd (let z : _≡_ {A = ℕ} 0 1 = cc in omega arith)
+
+-- a sheet that opens, with a log, is lawful
+pub logged-law : (s : List ℕ) (h r l : ℕ) (g : Sheet) → openedWithLog s h r l ≡ Image g → Lawful g
+unfolding openedWithLog
+logged-law s h r l g e = go (openedOf s h r) (logRight l) refl e
+  where
+    go : (o : Opened) (b : Bool) → openedOf s h r ≡ o → onOpened o (λ x. pick b (Image x) (Refused BadLength)) Refused ≡ Image g → Lawful g
+    go (Image x) true q f = let z : x ≡ g = cc in opened-law s h r g (q ∙ ap Image z)
+    go (Image x) false q f = absurd (let z : _≡_ {A = ℕ} 0 1 = cc in omega arith)
+    go (Refused why) b q f = absurd (let z : _≡_ {A = ℕ} 0 1 = cc in omega arith)

@@ -1,0 +1,28 @@
+-- The form is tested, and then the numbers. Assumes nothing.
+use mathlib.Core.Path.{sym, _∙_}
+use borrow.Author.Needs.{needs}
+use Rattle.opening.proofs.Sheets.{shaped-long}
+use Rattle.opening.specs.Sheet.{lengthsOf}
+use Rattle.opening.proofs.sheet.area_lengths.Statement.{statement}
+use Rattle.opening.proofs.sheet.area_lengths.Tie as tie
+
+is-shaped-requires : tie.Need-is-shaped-requires
+is-shaped-requires c κs = search needs
+
+read-requires : tie.Need-read-requires
+read-requires c κs = shaped-long _ (sym (c .before .is-shaped .ensures) ∙ c .if1 .taken)
+
+measure-areas-requires : tie.Need-measure-areas-requires
+measure-areas-requires c κs = search needs
+
+returns : tie.Need-returns
+unfolding lengthsOf
+returns c = (rw (← c .before .before .before .is-shaped .ensures, c .before .before .if1 .taken, ← c .before .read .ensures) (c .measure-areas .ensures .0), c .measure-areas .ensures .1)
+
+returns-2 : tie.Need-returns-2
+unfolding lengthsOf
+returns-2 c = (rw (← c .before .is-shaped .ensures, c .if1 .left), tt)
+
+pub area-lengths-spec : {M : Type 1} → statement M
+area-lengths-spec =
+    tie.close (tie.spec is-shaped-requires read-requires measure-areas-requires returns returns-2)

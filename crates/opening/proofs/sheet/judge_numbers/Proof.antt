@@ -1,0 +1,24 @@
+-- The numbers are tested, and then the lengths. Assumes nothing.
+use mathlib.Core.Path.{sym, _∙_}
+use borrow.Author.Needs.{needs}
+use Rattle.opening.proofs.Sheets.{lawful-known}
+use Rattle.opening.specs.Sheet.{numbered}
+use Rattle.opening.proofs.sheet.judge_numbers.Statement.{statement}
+use Rattle.opening.proofs.sheet.judge_numbers.Tie as tie
+
+is-lawful-requires : tie.Need-is-lawful-requires
+is-lawful-requires c κs = search needs
+
+measure-requires : tie.Need-measure-requires
+measure-requires c κs = lawful-known _ (sym (c .before .is-lawful .ensures) ∙ c .if1 .taken)
+
+returns : tie.Need-returns
+unfolding numbered
+returns c = (rw (← c .before .before .is-lawful .ensures, c .before .if1 .taken) (c .measure .ensures .0), c .measure .ensures .1)
+
+returns-2 : tie.Need-returns-2
+unfolding numbered
+returns-2 c = (rw (← c .before .is-lawful .ensures, c .if1 .left), tt)
+
+pub judge-numbers-spec : {M : Type 1} → statement M
+judge-numbers-spec = tie.close (tie.spec is-lawful-requires measure-requires returns returns-2)

@@ -1,0 +1,53 @@
+-- The three areas that a call is lent, and what a call leaves in them. Assumes nothing.
+use mathlib.Core.Path.{_≡_}
+use mathlib.Core.List.{List}
+use Prim.Native.Nat.{ℕ, _*_, _<_}
+use lib.Seq.{sets}
+use Rattle.words.specs.Word.{bytesOf, part}
+use Rattle.area.specs.Place.{placeAddress}
+use Rattle.area.specs.Record.{recordSize}
+use Rattle.opening.specs.Sheet.{Open}
+use Rattle.opening.specs.declared.sheet.Sheet.{Sheet}
+
+pub record Areas : Type 0 where
+  pub sheet : List ℕ
+  pub heap : List ℕ
+  pub records : List ℕ
+
+abbrev pub areas : List ℕ → List ℕ → List ℕ → Areas
+areas sheet heap records = record { sheet = sheet; heap = heap; records = records }
+
+-- what a call answers, and the areas afterwards
+pub record Result (A : Type 0) : Type 0 where
+  pub answer : A
+  pub areas : Areas
+
+-- a refused call: "every lent byte is as before"
+abbrev pub refusedWith : {A : Type 0} → A → Areas → Result A
+refusedWith answer a = record { answer = answer; areas = a }
+
+-- the address and the chunk of buffer i, and the address of record j
+abbrev pub bufferAddress : Sheet → ℕ → ℕ
+bufferAddress g i = placeAddress (g .heap) (g .chunk) i
+
+abbrev pub chunkAt : Sheet → List ℕ → ℕ → List ℕ
+chunkAt g heap i = part heap (i * g .chunk) (g .chunk)
+
+abbrev pub recordAddress : Sheet → ℕ → ℕ
+recordAddress g j = placeAddress (g .records) recordSize j
+
+-- where the chain head stands in the sheet
+abbrev pub headAt : ℕ
+headAt = 39
+
+-- a sheet with another head
+abbrev pub withHead : List ℕ → ℕ → List ℕ
+withHead sheet head = sets sheet headAt (bytesOf 4 head)
+
+-- ---- what a plan promises to who carries it out: all that is written for buffer i and record j lies in the areas, of s, h and r bytes
+
+pub record Ready (s h r : ℕ) (g : Sheet) (i j : ℕ) : Type 0 where
+  pub long : s ≡ 48
+  pub opened : Open h r g
+  pub buffer : i < g .count
+  pub own : j < g .count

@@ -1,0 +1,170 @@
+-- "Sheet and areas": the sheet's form, its numbers and their limits, and the opening of an image by the tests 1, 2 and 3. Assumes nothing.
+use mathlib.Core.Path.{_≡_}
+use mathlib.Core.Logic.{_⊎_}
+use mathlib.Core.Bool.{Bool, true, _&&_, _||_, not}
+use mathlib.Core.List.{List, [], _∷_}
+use Prim.Native.Nat.{ℕ, _+_, _*_, _%_, _≤_, _<_}
+use lib.Dec.{eqb, leb}
+use lib.ListN.{length}
+use Rattle.words.specs.Word.{numberAt}
+use Rattle.words.specs.Run.{pick}
+use Rattle.area.specs.Record.{recordSize}
+use Rattle.area.specs.declared.refusal.Refusal.{Refusal}
+use Rattle.area.specs.declared.refusal.Refusal.the-variants.{BadSheet, BadNumber, BadLength}
+use Rattle.opening.specs.declared.sheet.Sheet.{Sheet}
+use Rattle.opening.specs.declared.sheet.Lengths.{Lengths}
+use Rattle.opening.specs.declared.sheet.Lengths.the-variants as lengths
+use Rattle.opening.specs.declared.sheet.Opened.{Opened}
+use Rattle.opening.specs.declared.sheet.Opened.the-variants.{Image, Refused}
+
+-- ---- 1: the form
+
+-- "tagged fields, a one-byte tag, a two-byte length, the body": the field at an offset has a tag and a length
+unfoldable pub fieldIs : List ℕ → ℕ → ℕ → ℕ → Bool
+fieldIs s at tag len = eqb (numberAt 1 s at) tag && eqb (numberAt 2 s (at + 1)) len
+
+-- a tag and the length of its body
+pub record Field : Type 0 where
+  pub tag : ℕ
+  pub len : ℕ
+
+-- "Tags 1 to 8 stand once each, in order", with these lengths
+abbrev pub fields : List Field
+fields =
+    record { tag = 1; len = 4 }
+    ∷ record { tag = 2; len = 4 }
+    ∷ record { tag = 3; len = 4 }
+    ∷ record { tag = 4; len = 2 }
+    ∷ record { tag = 5; len = 2 }
+    ∷ record { tag = 6; len = 2 }
+    ∷ record { tag = 7; len = 4 }
+    ∷ record { tag = 8; len = 2 }
+    ∷ []
+
+-- the fields stand one after the other from an offset on
+abbrev pub fieldsFrom : List Field → ℕ → List ℕ → Bool
+fieldsFrom [] at s = true
+fieldsFrom (f ∷ fs) at s = fieldIs s at (f .tag) (f .len) && fieldsFrom fs (at + (3 + f .len)) s
+
+-- "The sheet is exactly 48 bytes", which the eight fields fill
+unfoldable pub shaped : List ℕ → Bool
+shaped s = eqb (length s) 48 && fieldsFrom fields 0 s
+
+-- ---- the numbers
+
+-- each body stands behind its tag and length
+unfoldable pub sheetOf : List ℕ → Sheet
+sheetOf s = record {
+  cache = numberAt 4 s 3;
+  heap = numberAt 4 s 10;
+  records = numberAt 4 s 17;
+  size = numberAt 2 s 24;
+  chunk = numberAt 2 s 29;
+  count = numberAt 2 s 34;
+  head = numberAt 4 s 39;
+  flags = numberAt 2 s 46;
+}
+
+-- "The heap area is n chunks. The record area is n records of 96 bytes"
+abbrev pub heapLength : Sheet → ℕ
+heapLength g = g .count * g .chunk
+
+abbrev pub recordsLength : Sheet → ℕ
+recordsLength g = g .count * recordSize
+
+-- ---- 2: the limits
+
+-- "Buffer size is a multiple of 8 from 8 to 4,096. Chunk size is buffer size plus 16. n is 1 to 512, and n times chunk size at most 65,536. Flags are
+-- 0x020f."
+unfoldable pub sizesLawful : ℕ → ℕ → ℕ → ℕ → Bool
+sizesLawful size chunk n flags =
+    eqb (size % 8) 0 && leb 8 size && leb size 4096
+    && eqb chunk (size + 16)
+    && leb 1 n && leb n 512 && leb (n * chunk) 65536
+    && eqb flags 0x020f
+
+-- "Both bases are non-zero multiples of 8; base plus area length is at most 2^32; the two address ranges share no address."
+unfoldable pub basesLawful : ℕ → ℕ → ℕ → ℕ → Bool
+basesLawful heap records heapLen recordsLen =
+    not (eqb heap 0) && eqb (heap % 8) 0 && not (eqb records 0) && eqb (records % 8) 0
+    && leb (heap + heapLen) 4294967296 && leb (records + recordsLen) 4294967296
+    && (leb (heap + heapLen) records || leb (records + recordsLen) heap)
+
+-- "Cache address and chain head may be any number."
+unfoldable pub lawful : Sheet → Bool
+lawful g = sizesLawful (g .size) (g .chunk) (g .count) (g .flags) && basesLawful (g .heap) (g .records) (heapLength g) (recordsLength g)
+
+-- the same, as what is known of a lawful sheet
+pub record Lawful (g : Sheet) : Type 0 where
+  pub eights : g .size % 8 ≡ 0
+  pub least : 8 ≤ g .size
+  pub most : g .size ≤ 4096
+  pub chunks : g .chunk ≡ g .size + 16
+  pub some : 1 ≤ g .count
+  pub few : g .count ≤ 512
+  pub area : g .count * g .chunk ≤ 65536
+  pub flagsAre : g .flags ≡ 0x020f
+  pub heapSome : 0 < g .heap
+  pub heapEights : g .heap % 8 ≡ 0
+  pub recordsSome : 0 < g .records
+  pub recordsEights : g .records % 8 ≡ 0
+  pub heapFits : g .heap + heapLength g ≤ 4294967296
+  pub recordsFit : g .records + recordsLength g ≤ 4294967296
+  pub apart : (g .heap + heapLength g ≤ g .records) ⊎ (g .records + recordsLength g ≤ g .heap)
+
+-- ---- 3: the lengths, and the opening
+
+-- "heap or record area of wrong length"
+abbrev pub lengthsRight : Sheet → ℕ → ℕ → Bool
+lengthsRight g h r = eqb h (heapLength g) && eqb r (recordsLength g)
+
+-- "Order: 1, 2, 3 always": the sheet's numbers, or the first refusal that holds, for areas of h and r bytes
+unfoldable pub measured : Sheet → ℕ → ℕ → Opened
+measured g h r = pick (lengthsRight g h r) (Image g) (Refused BadLength)
+
+unfoldable pub numbered : Sheet → ℕ → ℕ → Opened
+numbered g h r = pick (lawful g) (measured g h r) (Refused BadNumber)
+
+unfoldable pub openedOf : List ℕ → ℕ → ℕ → Opened
+openedOf s h r = pick (shaped s) (numbered (sheetOf s) h r) (Refused BadSheet)
+
+-- by whether an image is open
+abbrev pub onOpened {ℓ} : {A : Type ℓ} → Opened → (Sheet → A) → (Refusal → A) → A
+onOpened (Image g) f shut = f g
+onOpened (Refused why) f shut = shut why
+
+-- "log not a multiple of 16 or over 16,384"; "3 tests the log where one is given"
+abbrev pub logRight : ℕ → Bool
+logRight l = eqb (l % 16) 0 && leb l 16384
+
+unfoldable pub openedWithLog : List ℕ → ℕ → ℕ → ℕ → Opened
+openedWithLog s h r l = onOpened (openedOf s h r) (λ g. pick (logRight l) (Image g) (Refused BadLength)) Refused
+
+-- what is known of an open image: its sheet is lawful, and its areas are as long as the sheet says
+pub record Open (h r : ℕ) (g : Sheet) : Type 0 where
+  pub law : Lawful g
+  pub heapLong : h ≡ heapLength g
+  pub recordsLong : r ≡ recordsLength g
+
+abbrev pub OpenedIf : ℕ → ℕ → Opened → Type 0
+OpenedIf h r (Image g) = Open h r g
+OpenedIf h r (Refused why) = Unit {0}
+
+-- the same where a log of l bytes is given too
+abbrev pub LoggedIf : ℕ → ℕ → ℕ → Opened → Type 0
+LoggedIf h r l (Image g) = Open h r g × (l ≤ 16384)
+LoggedIf h r l (Refused why) = Unit {0}
+
+-- ---- the lengths that a sheet asks for
+
+unfoldable pub areasOf : Sheet → Lengths
+areasOf g = pick (lawful g) (lengths.Areas (heapLength g) (recordsLength g)) (lengths.Refused BadNumber)
+
+-- the tests 1 and 2, and then the lengths that 3 asks for
+unfoldable pub lengthsOf : List ℕ → Lengths
+lengthsOf s = pick (shaped s) (areasOf (sheetOf s)) (lengths.Refused BadSheet)
+
+-- what is known of them: they are small
+abbrev pub LengthsIf : Lengths → Type 0
+LengthsIf (lengths.Areas h r) = (h ≤ 65536) × (r ≤ 49152)
+LengthsIf (lengths.Refused why) = Unit {0}
