@@ -3,7 +3,7 @@
 ghost use mathlib.Core.Path.{_≡_};
 ghost use Rattle.words.specs.Age.{ageOf};
 
-// The age of `stamp` at the time `now`.
+// The age of a stamp at a time.
 pub fn age(time: u32, stamp: u32) -> u32
     ensures { λ r. ⌜ r ≡ ageOf 32 time stamp ⌝ }
 {
