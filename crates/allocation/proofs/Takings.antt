@@ -1,16 +1,15 @@
 -- What is known of a buffer that is taken. Assumes nothing.
 use mathlib.Core.Path.{_≡_, refl, sym, subst}
-use mathlib.Core.Bool.{Bool, true, false}
+use mathlib.Core.Bool.{Bool, true, false, and-eq-true-iff}
 use Prim.Native.Nat.{ℕ}
 use borrow.Author.Tests.{leb-true}
-use lib.Dec.{eqb, leb}
+use lib.Dec.{eqb}
 use Rattle.words.specs.Run.{pick}
 use Rattle.chunks.specs.Chunk.{LawfulGrant}
 use Rattle.tags.specs.Verdict.{verdictNumber}
 use Rattle.chunks.specs.declared.chunk.Grant.{Grant}
 use Rattle.chunks.specs.declared.chunk.Grant.the-variants as grant
 use Rattle.tags.specs.declared.verdict.Verdict.{Verdict}
-use Rattle.tags.proofs.Laws.{and-true}
 use Rattle.allocation.specs.Allocate.{lawfulSize, ifFree, SpotIf, Takes, TakenIf}
 use Rattle.area.specs.declared.refusal.Refusal.{Refusal}
 use Rattle.area.specs.declared.refusal.Refusal.the-variants.{Damage}
@@ -35,4 +34,4 @@ spot-taken s h r q p (Refused why) k e = tt
 -- a request of lawful size can be granted
 pub size-lawful : (q : Grant) (size : ℕ) → lawfulSize q size ≡ true → LawfulGrant size q
 size-lawful grant.Whole size e = tt
-size-lawful (grant.Sized s) size e = let b = and-true (leb 1 s) (leb s size) e in (leb-true 1 s (b .0), leb-true s size (b .1))
+size-lawful (grant.Sized s) size e = let b = and-eq-true-iff _ _ .0 e in (leb-true 1 s (b .0), leb-true s size (b .1))

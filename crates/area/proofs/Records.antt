@@ -5,7 +5,7 @@ use Prim.Native.Nat.{ℕ, _+_, _-_, _*_}
 use native.Mathlib.Omega.{arith}
 use lib.Seq.{sets}
 use Rattle.words.specs.Word.{bytesOf, numberAt}
-use Rattle.words.proofs.Laws.{sets-three}
+use Rattle.words.proofs.Parts.{sets-three}
 use Rattle.area.specs.Record.{stamped, recordSize, recordWord, stampHighAt, stampLowAt, threadAt}
 use Rattle.area.specs.Place.{placeAddress}
 

@@ -11,9 +11,11 @@ use Rattle.words.specs.Word.{part, bytesOf}
 use Rattle.words.specs.Run.{pick, repeated, difference}
 use Rattle.words.specs.declared.run.Difference.{Difference}
 use Rattle.words.specs.declared.run.Difference.the-variants.{At, Nowhere}
-use Rattle.words.proofs.Laws.{sets-next, sets-whole, length-bytesOf, length-repeated, repeated-once}
+use Rattle.words.proofs.Numbers.{length-bytesOf}
+use Rattle.words.proofs.Parts.{sets-next, sets-whole}
+use Rattle.words.proofs.Runs.{length-repeated, repeated-once}
 use Rattle.tags.specs.SizeCode.{decodedOf}
-use Rattle.tags.proofs.Laws.{decoded-within}
+use Rattle.tags.proofs.Tags.{decoded-within}
 use Rattle.chunks.specs.Chunk.{redzone, guard, bufferSize, chunkOf, freeChunk, grantedChunk}
 use Rattle.chunks.specs.Judge.{ifDiffers, r1Of, ofCode, zoneAfter, zoneVerdict, sizedVerdict, allocatedVerdict}
 use Rattle.tags.specs.declared.size_code.Decoded.{Decoded}

@@ -1,17 +1,16 @@
 -- The laws of findings: rows that are written one after the other, and verdicts that depend on what the marks say alone. Assumes nothing.
 use mathlib.Core.Path.{_≡_, refl, sym, ap, _∙_, subst}
 use mathlib.Core.Bool.{Bool, not}
-use mathlib.Core.List.{List, [], _∷_, _++_}
+use mathlib.Core.List.{List, [], _∷_}
 use Prim.Native.Nat.{ℕ, zero, suc, _+_, _*_, _≤_, _<_}
-use native.Mathlib.Nat.{suc-mul, le-step}
-use native.Mathlib.Numerals.{add-one}
+use native.Mathlib.Nat.{le-step}
 use native.Mathlib.Omega.{arith}
 use borrow.Author.Tests.{ne-eqb, le-leb}
 use lib.Dec.{eqb}
 use native.Mathlib.Decide.{ℕ-discrete}
-use lib.ListN.{length, getD, set, drop, length-append, length-set, List·getD-append}
-use lib.Seq.{sets, sets-eq, getD-append-add, getD-set-same, getD-set-other}
-use Rattle.words.proofs.Laws.{sets-then}
+use lib.ListN.{length, getD, set, drop, length-set, List·getD-append}
+use lib.Seq.{sets, getD-set-same, getD-set-other}
+use Rattle.words.proofs.Parts.{below, sets-front, flat-same, length-flat, getD-flat}
 use Rattle.tags.specs.declared.verdict.Verdict.{Verdict}
 use Rattle.verdicts.specs.Walk.{marksOf, mark}
 use Rattle.verdicts.specs.Chain.{Chain, occ}
@@ -30,7 +29,8 @@ use Rattle.image.specs.declared.inspect.Start.{Start}
 use Rattle.image.specs.declared.inspect.Begun.{Begun}
 use Rattle.verdicts.specs.declared.pairing.Own.{Own}
 use Rattle.verdicts.specs.declared.pairing.Own.the-variants.{One, NotOne}
-use Rattle.verdicts.proofs.Chains as chains
+use Rattle.verdicts.proofs.Marks.{mark-at}
+use Rattle.verdicts.proofs.Chains.{chain-again-below, chain-short}
 use Rattle.verdicts.proofs.Pairs.{paired-in}
 
 -- ---- a row of findings
@@ -69,27 +69,6 @@ three-stores l at a b c =
     let f : at + 2 ≡ suc (suc at) = omega arith in
     rw (e, f)
 
-pub length-rows : (f : ℕ → Finding) (n : ℕ) → length (rowsOf f n) ≡ n * 3
-unfolding rowsOf
-length-rows f zero = refl
-length-rows f (suc n) = simp (length-append, length-rows f n) (omega (arith, suc-mul n 3))
-
--- no rows yet, and one row more
-pub rows-none : (l : List ℕ) (f : ℕ → Finding) → l ≡ sets l 0 (rowsOf f 0)
-unfolding rowsOf
-rows-none l f = refl
-
-pub rows-more : (l s t : List ℕ) (f : ℕ → Finding) (i : ℕ) → s ≡ sets l 0 (rowsOf f i) → t ≡ sets s (i * 3) (numbersOf (f i)) → t ≡ sets l 0 (rowsOf f (i + 1))
-unfolding rowsOf
-rows-more l s t f i es et =
-    rw (et, es, add-one) (sets-then l 0 (i * 3) (i * 3) (rowsOf f i) (numbersOf (f i)) (length-rows f i) (omega arith))
-
--- the same findings have the same rows
-pub rows-same : (f g : ℕ → Finding) (n : ℕ) → ((i : ℕ) → i < n → f i ≡ g i) → rowsOf f n ≡ rowsOf g n
-unfolding rowsOf
-rows-same f g zero h = refl
-rows-same f g (suc n) h = rw (rows-same f g n (λ i l. h i (le-step l)), h n (omega arith))
-
 -- ---- verdicts by the marks
 
 -- a verdict looks at the chain only for the own record
@@ -106,7 +85,7 @@ mark-met (suc k) = rw (ne-eqb (suc k) 0 (λ e. omega arith))
 
 marked-met : (n : ℕ) (c : Chain) (marks : List ℕ) (j : ℕ) → marks ≡ marksOf n (c .met) → j < n → marked marks j ≡ metBy c j
 marked-met n c marks j e h =
-    ap (λ (m : List ℕ). not (eqb (getD m j 0) 0)) e ∙ ap (λ (x : ℕ). not (eqb x 0)) (chains.marked n (c .met) j h) ∙ mark-met (occ j (c .met))
+    ap (λ (m : List ℕ). not (eqb (getD m j 0) 0)) e ∙ ap (λ (x : ℕ). not (eqb x 0)) (mark-at n (c .met) j h) ∙ mark-met (occ j (c .met))
 
 -- what is found by the marks is the finding
 module _ (g : Sheet) (heap records pairs marks : List ℕ) (few : g .count ≤ 512) (p : Paired records (g .heap) (g .chunk) (g .count) pairs) (e : marks ≡ marksOf 512 (imageChain g records .met)) where
@@ -121,7 +100,7 @@ module _ (g : Sheet) (heap records pairs marks : List ℕ) (few : g .count ≤ 5
 
   pub table-is : rowsOf (foundBy heap (started g records) pairs marks) (g .count) ≡ tableOf g heap records
   unfolding tableOf
-  table-is = rows-same _ _ (g .count) found-is
+  table-is = flat-same _ _ (g .count) (λ i h. ap numbersOf (found-is i h))
 
 -- ---- what is begun
 
@@ -157,7 +136,7 @@ begins-image s heap records m g b opened o small st p e = record {
         rw (opened, le-leb (g .count) (length rows) l)
         (ap (λ (r : List Finding). record { answer = started g records .answer; rows = r })
         (filled-same (findingOf g heap records) (foundBy heap (started g records) (b .pairs) (b .marks)) rows (g .count)
-        (λ i h. sym (found-is g heap records (b .pairs) (b .marks) (o .law .few) p e i h)))
+        (λ i h. sym (found-is g heap records (b .pairs) (b .marks) (o .law .sizes .few) p e i h)))
         ∙ ap (shown rows) (sym st))
 
 -- ---- the numbers of a survey are small
@@ -165,39 +144,24 @@ begins-image s heap records m g b opened o small st p e = record {
 ending-small : (g : Sheet) (records : List ℕ) (e : Ending) → imageChain g records .ending ≡ e → g .count ≤ 512 → EndingIf 512 e
 ending-small g records ending.End q few = tt
 ending-small g records ending.Broken q few = tt
-ending-small g records (ending.Again i) q few = let h = chains.chain-again-below records (g .records) (g .count) (g .head) i q in omega arith
+ending-small g records (ending.Again i) q few = let h = chain-again-below records (g .records) (g .count) (g .head) i q in omega arith
 
 pub survey-small : (g : Sheet) (records : List ℕ) (met : ℕ) (e : Ending) → Lawful g → met ≡ length (imageChain g records .met) → e ≡ imageChain g records .ending
     → Small (record { count = g .count; met = met; ending = e })
 survey-small g records met e law m q =
-    let few = law .few in
-    let short = chains.chain-short records (g .records) (g .count) (g .head) in
-    record { some = law .some; few = few; met = omega arith; again = ending-small g records e (sym q) few }
+    let few = law .sizes .few in
+    let short = chain-short records (g .records) (g .count) (g .head) in
+    record { some = law .sizes .some; few = few; met = omega arith; again = ending-small g records e (sym q) few }
 
 -- ---- the numbers of a row
-
-row-number : (f : ℕ → Finding) (n i k : ℕ) → i < n → k < 3 → getD (rowsOf f n) (i * 3 + k) 0 ≡ getD (numbersOf (f i)) k 0
-unfolding rowsOf
-row-number f zero i k h l = absurd (omega arith)
-row-number f (suc n) i k h l = go (ℕ-discrete i n) (row-number f n i k)
-  where
-    go : Dec (i ≡ n) → (i < n → k < 3 → getD (rowsOf f n) (i * 3 + k) 0 ≡ getD (numbersOf (f i)) k 0)
-        → getD (rowsOf f n ++ numbersOf (f n)) (i * 3 + k) 0 ≡ getD (numbersOf (f i)) k 0
-    go (yes e) ih =
-        ap (λ (x : ℕ). getD (rowsOf f n ++ numbersOf (f n)) (x + k) 0) (ap (λ (x : ℕ). x * 3) e ∙ sym (length-rows f n))
-        ∙ getD-append-add (rowsOf f n) (numbersOf (f n)) k 0
-        ∙ ap (λ (x : ℕ). getD (numbersOf (f x)) k 0) (sym e)
-    go (no d) ih =
-        let g : i < n = omega arith in
-        List·getD-append (rowsOf f n) (numbersOf (f n)) 0 (i * 3 + k) (omega (arith, length-rows f n)) ∙ ih g l
 
 -- number k of buffer i's row, in a lent row with the findings at its start
 module _ (g : Sheet) (heap records rows : List ℕ) (room : g .count * 3 ≤ length rows) (i : ℕ) (h : i < g .count) where
   pub finding : (k : ℕ) → k < 3 → getD (sets rows 0 (tableOf g heap records)) (i * 3 + k) 0 ≡ getD (numbersOf (findingOf g heap records i)) k 0
   unfolding tableOf
   finding k l =
-      let f = findingOf g heap records in
-      let e : length (rowsOf f (g .count)) ≡ g .count * 3 = length-rows f (g .count) in
-      ap (λ (x : List ℕ). getD x (i * 3 + k) 0) (sets-eq (rowsOf f (g .count)) rows 0 (omega arith))
-      ∙ List·getD-append (rowsOf f (g .count)) (drop (0 + length (rowsOf f (g .count))) rows) 0 (i * 3 + k) (omega arith)
-      ∙ row-number f (g .count) i k h l
+      let table = rowsOf (findingOf g heap records) (g .count) in
+      let e : length table ≡ g .count * 3 = length-flat 3 _ (λ i. refl) (g .count) in
+      ap (λ (x : List ℕ). getD x (i * 3 + k) 0) (sets-front rows table (omega arith))
+      ∙ List·getD-append table (drop (length table) rows) 0 (i * 3 + k) (omega (arith, below 3 h))
+      ∙ getD-flat 3 _ (λ i. refl) (g .count) i k h l

@@ -1,10 +1,11 @@
 -- "Inspect fills a lent row of findings, one record per buffer, rows past n untouched; each holds index and verdict, with its size or offset." Assumes nothing.
 use mathlib.Core.Path.{_≡_}
-use mathlib.Core.List.{List, [], _∷_, _++_}
+use mathlib.Core.List.{List, [], _∷_}
 use Prim.Native.Nat.{ℕ, zero, suc, _*_, _≤_, _<_}
 use lib.Dec.{leb}
 use lib.ListN.{length, getD, set}
 use lib.Seq.{sets}
+use Rattle.words.specs.Word.{flat}
 use Rattle.words.specs.Run.{pick}
 use Rattle.tags.specs.Verdict.{verdictNumber, verdictValue}
 use Rattle.tags.specs.declared.verdict.Verdict.{Verdict}
@@ -54,9 +55,8 @@ abbrev pub numbersOf : Finding → List ℕ
 numbersOf f = f .index ∷ verdictNumber (f .verdict) ∷ verdictValue (f .verdict) ∷ []
 
 -- the numbers of the findings f 0 to f (n - 1)
-unfoldable pub rowsOf : (ℕ → Finding) → ℕ → List ℕ
-rowsOf f zero = []
-rowsOf f (suc i) = rowsOf f i ++ numbersOf (f i)
+abbrev pub rowsOf : (ℕ → Finding) → ℕ → List ℕ
+rowsOf f n = flat n (λ i. numbersOf (f i))
 
 -- the numbers of all findings of an image
 unfoldable pub tableOf : Sheet → List ℕ → List ℕ → List ℕ

@@ -1,26 +1,21 @@
 -- "Lay out, given the cache address, bases, size and n: writes all three areas; all buffers free; buffer i paired with record i; chain 0 to n-1 in order; each
 -- record holds next, address and cache, all else 0." Assumes nothing.
 use mathlib.Core.Path.{_≡_}
-use mathlib.Core.List.{List, [], _++_}
-use Prim.Native.Nat.{ℕ, zero, suc, _+_}
+use mathlib.Core.List.{List, _++_}
+use Prim.Native.Nat.{ℕ, suc, _+_}
 use lib.Dec.{eqb, ltb}
 use lib.ListN.{length, replicate}
-use Rattle.words.specs.Word.{bytesOf}
+use Rattle.words.specs.Word.{flat, bytesOf}
 use Rattle.words.specs.Run.{pick}
 use Rattle.chunks.specs.Chunk.{freeChunk}
 use Rattle.opening.specs.Areas.{Areas, Result, refusedWith, bufferAddress, recordAddress}
-use Rattle.opening.specs.Sheet.{lawful, lengthsRight, numbered, Open}
+use Rattle.opening.specs.Sheet.{numbered, onOpened, Open}
 use Rattle.opening.specs.declared.sheet.Sheet.{Sheet}
 use Rattle.opening.specs.declared.sheet.Opened.{Opened}
 use Rattle.opening.specs.declared.sheet.Opened.the-variants as opened
-use Rattle.area.specs.declared.refusal.Refusal.the-variants.{BadSheet, BadNumber, BadLength}
+use Rattle.area.specs.declared.refusal.Refusal.the-variants.{BadSheet}
 use Rattle.area.specs.declared.refusal.Outcome.{Outcome}
 use Rattle.area.specs.declared.refusal.Outcome.the-variants.{Done, Refused}
-
--- f 0, f 1, .. , f (n - 1), one after the other
-unfoldable pub flat : ℕ → (ℕ → List ℕ) → List ℕ
-flat zero f = []
-flat (suc n) f = flat n f ++ f n
 
 -- the word that leads to record i: its address, or 0 past the last
 unfoldable pub linkTo : Sheet → ℕ → ℕ
@@ -67,21 +62,15 @@ laidAreas g = record {
   records = flat (g .count) (recordBytes g);
 }
 
--- "Lay out tests only these: 1 by its sheet area's length alone, 2 on its arguments", and 3
+-- "Lay out tests only these: 1 by its sheet area's length alone, 2 on its arguments", and 3: the sheet's numbers where they pass
+unfoldable pub layOutPlan : Sheet → ℕ → ℕ → ℕ → Opened
+layOutPlan g s h r = pick (eqb s 48) (numbered g h r) (opened.Refused BadSheet)
+
 unfoldable pub layOutOf : Areas → ℕ → ℕ → ℕ → ℕ → ℕ → Result Outcome
 layOutOf a cache heap records size n =
-    pick (eqb (length (a .sheet)) 48)
-    (pick (lawful (laidSheet cache heap records size n))
-    (pick (lengthsRight (laidSheet cache heap records size n) (length (a .heap)) (length (a .records)))
-    (record { answer = Done; areas = laidAreas (laidSheet cache heap records size n) })
-    (refusedWith (Refused BadLength) a))
-    (refusedWith (Refused BadNumber) a))
-    (refusedWith (Refused BadSheet) a)
-
--- ---- the plan: the same tests, with the sheet's numbers where they pass
-
-unfoldable pub planOf : Sheet → ℕ → ℕ → ℕ → Opened
-planOf g s h r = pick (eqb s 48) (numbered g h r) (opened.Refused BadSheet)
+    onOpened (layOutPlan (laidSheet cache heap records size n) (length (a .sheet)) (length (a .heap)) (length (a .records)))
+    (λ g. record { answer = Done; areas = laidAreas g })
+    (λ why. refusedWith (Refused why) a)
 
 -- what a plan promises to who carries it out
 pub record Planned (s h r : ℕ) (g : Sheet) : Type 0 where

@@ -5,7 +5,7 @@
 ghost use mathlib.Core.Path.{_≡_};
 ghost use lib.ListN.{length};
 ghost use Rattle.opening.specs.Areas.{areas};
-ghost use Rattle.layout.specs.Layout.{laidSheet, laidAreas, layOutOf, planOf, PlannedIf, Planned};
+ghost use Rattle.layout.specs.Layout.{laidSheet, laidAreas, layOutOf, layOutPlan, PlannedIf, Planned};
 use area::refusal::Outcome;
 use area::refusal::Refusal;
 use opening::sheet;
@@ -36,7 +36,7 @@ fn sheet_for(cache: u32, heap_base: u32, record_base: u32, size: u32, count: u32
 
 // Whether areas of these lengths can be laid out with these numbers: the tests 1, 2 and 3.
 fn plan(g: Sheet, sheet_len: usize, heap_len: usize, records_len: usize) -> Opened
-    ensures { λ r. ⌜ r ≡ planOf g «sheet_len» «heap_len» «records_len» ⌝ }
+    ensures { λ r. ⌜ r ≡ layOutPlan g «sheet_len» «heap_len» «records_len» ⌝ }
     ensures { λ r. ⌜ PlannedIf «sheet_len» «heap_len» «records_len» r ⌝ }
 {
     if sheet_len != sheet::LENGTH {

@@ -20,11 +20,12 @@ use Rattle.opening.specs.declared.sheet.Sheet.{Sheet}
 use Rattle.area.specs.declared.place.Place.{Place}
 use Rattle.area.specs.declared.place.Place.the-variants as place
 use Rattle.area.proofs.Places.{address-one, place-found}
+use Rattle.allocation.proofs.Takings.{size-lawful}
 use Rattle.ledger.specs.Ledger.{Loan, Call, allocate, free, store, put, grantSize, fresh, laidOver, World, opened, step, run}
 use Rattle.ledger.proofs.Counts.{total, total-change, total-none, put-same, put-other, range}
 use Rattle.ledger.proofs.State.{Laid, outs, Holds, chunk-some}
 use Rattle.ledger.proofs.Calls.{hold, taken-below, taken-in, allocate-unlawful, allocate-none, allocate-some, free-done, free-other, free-in, free-stray, store-done, store-past, store-in, store-stray}
-use Rattle.ledger.proofs.Keeps.{lawful-grant, granted-holds, freed-holds, stored-holds}
+use Rattle.ledger.proofs.Keeps.{granted-holds, freed-holds, stored-holds}
 use Rattle.ledger.proofs.Start.{laid-holds}
 
 -- how many buffers are out
@@ -79,7 +80,7 @@ module _ (g : Sheet) (laid : Laid g) where
       (record {
         head = nextWord (w .areas .records) j;
         chain = js;
-        holds = granted-holds g laid q uptime thread (lawful-grant (g .size) q e) v;
+        holds = granted-holds g laid q uptime thread (size-lawful q (g .size) e) v;
         books = omega (arith, count-put j (taken-below g laid v) (some (fresh (g .size) q)) (w .ledger .out), ap outs (taken-in g laid v));
       })
 

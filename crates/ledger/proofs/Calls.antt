@@ -10,7 +10,7 @@ use borrow.Author.Tests.{eq-eqb, ne-eqb}
 use lib.Dec.{leb}
 use lib.ListN.{length}
 use Rattle.words.specs.Word.{part}
-use Rattle.words.proofs.Laws.{part-part}
+use Rattle.words.proofs.Parts.{part-part}
 use Rattle.chunks.specs.declared.chunk.Grant.{Grant}
 use Rattle.chunks.specs.declared.chunk.Grant.the-variants as grant
 use Rattle.opening.specs.Areas.{Areas, refusedWith, bufferAddress, recordAddress, chunkAt}
@@ -31,7 +31,7 @@ use Rattle.holding.specs.declared.holding.Holding.{Holding}
 use Rattle.holding.specs.declared.holding.Held.the-variants as held
 use Rattle.holding.specs.declared.show.Shown.the-variants as shown
 use Rattle.area.proofs.Places.{place-at}
-use Rattle.verdicts.proofs.Chains.{occ-here}
+use Rattle.verdicts.proofs.Marks.{occ-here}
 use Rattle.ledger.specs.Ledger.{Loan, headed, grantSize, asGranted}
 use Rattle.ledger.proofs.Chunks.{chunkFor, LawfulLoan, granted-verdict, grant-within, free-sound, client-part}
 use Rattle.ledger.proofs.State.{Laid, outs, Holds, record-fits, records-some, chunk-some, first-below, first-address, none-linked, opens}
@@ -78,7 +78,7 @@ module _ (g : Sheet) (laid : Laid g) where
     held-out j h o e =
         let l = loan-is j h (some o) e in
         let word = record-fits g laid j h in
-        let few = laid .law .most in
+        let few = laid .law .sizes .most in
         rw (
           opens g laid v,
           buffer-place j h (bufferAddress g j) refl,
@@ -95,7 +95,7 @@ module _ (g : Sheet) (laid : Laid g) where
     unfolding heldOf heldAt heldChunk
     held-in j h e =
         let word = record-fits g laid j h in
-        let few = laid .law .most in
+        let few = laid .law .sizes .most in
         rw (
           opens g laid v,
           buffer-place j h (bufferAddress g j) refl,
@@ -173,7 +173,7 @@ module _ (g : Sheet) (laid : Laid g) where
         let l = loan-is j h (some o) e in
         let k = grantSize (g .size) (o .grant) in
         ap (λ (x : ℕ). part (a .heap) x k) (sym (add-zero (j * g .chunk)))
-        ∙ sym (part-part (a .heap) (j * g .chunk) (g .chunk) 0 k (omega (arith, grant-within (g .size) (o .grant) (l .0), laid .law .chunks)))
+        ∙ sym (part-part (a .heap) (j * g .chunk) (g .chunk) 0 k (omega (arith, grant-within (g .size) (o .grant) (l .0), laid .law .sizes .chunks)))
         ∙ ap (λ (x : List ℕ). part x 0 k) (chunk-is j h (some o) e)
         ∙ client-part (g .size) (recordAddress g j) o l
 
@@ -203,7 +203,7 @@ module _ (g : Sheet) (laid : Laid g) where
         let h = taken-below in
         let at = first-address g laid _ head j js (v .linked) in
         let word = record-fits g laid j h in
-        let few = laid .law .most in
+        let few = laid .law .sizes .most in
         rw (
           opens g laid v,
           e,

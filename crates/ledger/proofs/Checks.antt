@@ -1,11 +1,11 @@
 -- P1 to P12 hold: a test that is computed over the whole table, and one law that turns it into what each check claims. Assumes nothing.
 use mathlib.Core.Path.{_≡_, refl}
-use mathlib.Core.Bool.{Bool, true, _&&_}
+use mathlib.Core.Bool.{Bool, true, _&&_, and-eq-true-iff}
 use mathlib.Core.List.{List, [], _∷_}
 use borrow.Author.Tests.{eqb-true, ltb-true}
 use lib.Bits.{bitXor}
 use lib.Dec.{eqb, ltb}
-use Rattle.words.specs.Word.{part, number, bytesOf, numberAt}
+use Rattle.words.specs.Word.{part, flat, number, bytesOf, numberAt}
 use Rattle.words.specs.Run.{repeated, differenceFrom}
 use Rattle.words.specs.Age.{ageOf}
 use Rattle.tags.specs.Tag.{stateWord, tagOf, patternOf, patternWord}
@@ -17,11 +17,10 @@ use Rattle.chunks.specs.declared.chunk.Grant.the-variants as grant
 use Rattle.area.specs.Record.{stamped, recordWord}
 use Rattle.opening.specs.Sheet.{fieldIs, shaped, sheetOf, sizesLawful, basesLawful, lawful, measured, numbered, openedOf}
 use Rattle.area.specs.Place.{placeOf}
-use Rattle.layout.specs.Layout.{flat, linkTo, sheetBytes, recordBytes, laidAreas, layOutOf}
+use Rattle.layout.specs.Layout.{linkTo, sheetBytes, recordBytes, laidAreas, layOutPlan, layOutOf}
 use Rattle.allocation.specs.Allocate.{takenChunk, takenHead, takenOf, allocatePlan, grantedAreas, allocateOf}
 use Rattle.ledger.specs.Ledger.{allocate, resultOf, put, opened, run}
 use Rattle.ledger.specs.Checks.{freshAreas, refusedAs, chunkVerdict, Check, tagged, judged, aged, next, Holds, AllHold, checks, freeWith, allocatedWith}
-use Rattle.tags.proofs.Laws.{and-true}
 
 abbrev test : Check → Bool
 test (tagged t0 t1 s) = eqb (bitXor t0 t1) (stateWord s)
@@ -32,11 +31,11 @@ test (next calls number) = eqb (refusedAs (resultOf (allocate grant.Whole 4 7) (
 holds : (c : Check) → test c ≡ true → Holds c
 holds (tagged t0 t1 s) e = eqb-true (bitXor t0 t1) (stateWord s) e
 holds (judged c number value) e =
-    let both = and-true (eqb (verdictNumber (chunkVerdict c)) number) (eqb (verdictValue (chunkVerdict c)) value) e in
+    let both = and-eq-true-iff _ _ .0 e in
     (eqb-true (verdictNumber (chunkVerdict c)) number (both .0), eqb-true (verdictValue (chunkVerdict c)) value (both .1))
 holds (aged time first second age₁ age₂) e =
-    let one = and-true (eqb (ageOf 32 time first) age₁) (eqb (ageOf 32 time second) age₂ && ltb age₂ age₁) e in
-    let two = and-true (eqb (ageOf 32 time second) age₂) (ltb age₂ age₁) (one .1) in
+    let one = and-eq-true-iff _ _ .0 e in
+    let two = and-eq-true-iff _ _ .0 (one .1) in
     (eqb-true (ageOf 32 time first) age₁ (one .0), eqb-true (ageOf 32 time second) age₂ (two .0), ltb-true age₂ age₁ (two .1))
 holds (next calls number) e = eqb-true (refusedAs (resultOf (allocate grant.Whole 4 7) (run 24 calls (opened freshAreas) .areas) .answer)) number e
 
@@ -46,10 +45,10 @@ all (c ∷ cs) = test c && all cs
 
 all-hold : (cs : List Check) → all cs ≡ true → AllHold cs
 all-hold [] e = tt
-all-hold (c ∷ cs) e = let both = and-true (test c) (all cs) e in (holds c (both .0), all-hold cs (both .1))
+all-hold (c ∷ cs) e = let both = and-eq-true-iff _ _ .0 e in (holds c (both .0), all-hold cs (both .1))
 
 computed : all checks ≡ true
-unfolding checks freeWith allocatedWith freshAreas run put layOutOf laidAreas sheetBytes recordBytes flat linkTo part number bytesOf numberAt repeated differenceFrom tagOf patternOf patternWord codeOf decodedOf chunkOf freeChunk grantedChunk tagAt chunkVerdict freeVerdict allocatedVerdict zoneVerdict sizedVerdict ageOf stamped fieldIs shaped sheetOf measured numbered openedOf lawful sizesLawful basesLawful placeOf recordWord takenChunk takenHead takenOf allocatePlan grantedAreas allocateOf
+unfolding checks freeWith allocatedWith freshAreas run put layOutPlan layOutOf laidAreas sheetBytes recordBytes flat linkTo part number bytesOf numberAt repeated differenceFrom tagOf patternOf patternWord codeOf decodedOf chunkOf freeChunk grantedChunk tagAt chunkVerdict freeVerdict allocatedVerdict zoneVerdict sizedVerdict ageOf stamped fieldIs shaped sheetOf measured numbered openedOf lawful sizesLawful basesLawful placeOf recordWord takenChunk takenHead takenOf allocatePlan grantedAreas allocateOf
 computed = refl
 
 pub checks-hold : AllHold checks

@@ -3,7 +3,7 @@ use mathlib.Core.Path.{_≡_, refl, sym, ap, _∙_}
 use mathlib.Core.Logic.{_≢_, inr}
 use mathlib.Core.List.{List, [], _∷_, _++_, append-assoc}
 use mathlib.Core.Option.{Option, none, some}
-use Prim.Native.Nat.{ℕ, _+_, _-_, _%_, _≤_, _<_}
+use Prim.Native.Nat.{ℕ, _+_, _-_, _≤_, _<_}
 use native.Mathlib.Nat.{add-zero}
 use native.Mathlib.Decide.{ℕ-discrete}
 use native.Mathlib.Omega.{arith}
@@ -14,12 +14,14 @@ use lib.ListN.{length, getD, set, length-set, length-append}
 use lib.Seq.{sets, length-sets, getD-set-same}
 use Rattle.words.specs.Word.{part, number, bytesOf, numberAt}
 use Rattle.words.specs.Run.{repeated}
-use Rattle.words.proofs.Laws.{getD-part, part-left, part-right, part-all, part-written, part-before, part-after, part-inside, length-bytesOf, number-bytesOf, numberAt-outside, length-repeated, repeated-more, repeated-once, same-nowhere}
+use Rattle.words.proofs.Numbers.{length-bytesOf, number-back, numberAt-outside}
+use Rattle.words.proofs.Parts.{getD-part, part-left, part-right, part-all, part-written, part-before, part-after, part-inside, sets-over, sets-same}
+use Rattle.words.proofs.Runs.{length-repeated, repeated-more, repeated-once, same-nowhere, part-repeated}
 use Rattle.tags.specs.Tag.{tagOf, stateWord}
 use Rattle.tags.specs.SizeCode.{codeOf}
 use Rattle.chunks.specs.Chunk.{redzone, freeFill, grantFill, guard, chunkOf, freeChunk, grantedChunk, tagAt, LawfulGrant}
 use Rattle.chunks.specs.Judge.{freeVerdict, allocatedVerdict, sizedVerdict, zoneVerdict, zoneAfter}
-use Rattle.tags.proofs.Laws.{decode-code}
+use Rattle.tags.proofs.Tags.{decode-code}
 use Rattle.chunks.proofs.Chunks.{length-chunkOf, length-freeChunk, length-grantedChunk}
 use Rattle.tags.specs.declared.tag.State.{State}
 use Rattle.tags.specs.declared.tag.State.the-variants as state
@@ -27,13 +29,8 @@ use Rattle.chunks.specs.declared.chunk.Grant.{Grant}
 use Rattle.chunks.specs.declared.chunk.Grant.the-variants as grant
 use Rattle.tags.specs.declared.verdict.Verdict.the-variants.{Free, Whole, Allocated}
 use Rattle.ledger.specs.Ledger.{Loan, grantSize, fresh, laidOver, asGranted}
-use Rattle.ledger.proofs.Runs.{sets-over, sets-same, part-repeated}
 
 -- ---- the words behind the buffer
-
--- a word is read back from its bytes
-pub word-back : (v : ℕ) → v < 4294967296 → number (bytesOf 4 v) ≡ v
-word-back v h = number-bytesOf 4 v ∙ (let e : v % 4294967296 ≡ v = omega arith in e)
 
 -- the last four bytes
 last : (p v : List ℕ) (at : ℕ) → length p ≡ at → length v ≡ 4 → part (p ++ v) at 4 ≡ v
@@ -68,12 +65,12 @@ ends-chunk size b r0 r1 t0 t1 e h1 h2 h3 =
           (part-left (b ++ z0 ++ z1 ++ z2) z3 (size + 4) 4 (omega arith)
           ∙ part-left (b ++ z0 ++ z1) z2 (size + 4) 4 (omega arith)
           ∙ last (b ++ z0) z1 (size + 4) l1 (length-bytesOf 4 r1))
-          ∙ word-back r1 h1;
+          ∙ number-back 4 r1 h1;
       firstIs = ap number
           (part-left (b ++ z0 ++ z1 ++ z2) z3 (size + 8) 4 (omega arith)
           ∙ last (b ++ z0 ++ z1) z2 (size + 8) l2 (length-bytesOf 4 t0))
-          ∙ word-back t0 h2;
-      secondIs = ap number (last (b ++ z0 ++ z1 ++ z2) z3 (size + 12) l3 (length-bytesOf 4 t1)) ∙ word-back t1 h3;
+          ∙ number-back 4 t0 h2;
+      secondIs = ap number (last (b ++ z0 ++ z1 ++ z2) z3 (size + 12) l3 (length-bytesOf 4 t1)) ∙ number-back 4 t1 h3;
     }
 
 module _ {size : ℕ} {c zone : List ℕ} {r1 t0 t1 : ℕ} (e : Ends size c zone r1 t0 t1) where

@@ -11,7 +11,7 @@ use Rattle.area.specs.Place.{placeAddress, placeOf}
 use Rattle.verdicts.specs.Chain.{occ}
 use Rattle.area.specs.declared.place.Place.the-variants.{Nowhere}
 use Rattle.area.proofs.Places.{address-one, place-missed}
-use Rattle.verdicts.proofs.Chains.{occ-none, occ-here, occ-apart}
+use Rattle.verdicts.proofs.Marks.{occ-none, occ-here, occ-apart}
 use Rattle.ledger.specs.Ledger.{Loan, put}
 
 -- ---- sums

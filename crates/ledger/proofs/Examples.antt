@@ -4,7 +4,7 @@ use mathlib.Core.List.{List, [], _∷_}
 use mathlib.Core.Option.{none, some}
 use lib.Dec.{lit<}
 use lib.ListN.{replicate}
-use Rattle.words.specs.Word.{part, number, bytesOf, numberAt}
+use Rattle.words.specs.Word.{part, flat, number, bytesOf, numberAt}
 use Rattle.words.specs.Run.{repeated, differenceFrom}
 use Rattle.tags.specs.Tag.{tagOf, patternWord, patternOf}
 use Rattle.tags.specs.SizeCode.{codeOf, decodedOf}
@@ -15,7 +15,7 @@ use Rattle.opening.specs.Areas.{Areas}
 use Rattle.area.specs.Record.{stamped, recordWord}
 use Rattle.opening.specs.Sheet.{fieldIs, shaped, sheetOf, sizesLawful, basesLawful, lawful, measured, numbered, openedOf}
 use Rattle.area.specs.Place.{placeOf}
-use Rattle.layout.specs.Layout.{flat, linkTo, sheetBytes, recordBytes, laidAreas, laidSheet, layOutOf}
+use Rattle.layout.specs.Layout.{linkTo, sheetBytes, recordBytes, laidAreas, laidSheet, layOutPlan, layOutOf}
 use Rattle.allocation.specs.Allocate.{takenChunk, takenHead, takenOf, allocatePlan, grantedAreas, allocateOf}
 use Rattle.holding.specs.Holding.{heldChunk, heldAt, heldOf}
 use Rattle.holding.specs.Free.{freePlan, freedAreas, freeOf}
@@ -32,7 +32,7 @@ areas₀ = record { sheet = replicate 48 0; heap = replicate 48 0; records = rep
 
 -- the lay out is accepted
 laid₀ : layOutOf areas₀ 64 4096 8192 8 2 .answer ≡ outcome.Done
-unfolding areas₀ layOutOf lawful sizesLawful basesLawful
+unfolding areas₀ layOutPlan layOutOf measured numbered lawful sizesLawful basesLawful
 laid₀ = refl
 
 -- what a list of calls leaves, and what a call then answers
@@ -66,7 +66,7 @@ record Evaluated : Type 0 where
   next : answer₀ calls₁ (allocate (grant.Sized 8) 4 7) ≡ allocated.At 4096
 
 evaluated : Evaluated
-unfolding areas₀ world₀ answer₀ calls₀ calls₁ run put layOutOf lawful sizesLawful basesLawful laidAreas sheetBytes recordBytes flat linkTo part number bytesOf numberAt repeated differenceFrom tagOf patternWord patternOf codeOf decodedOf chunkOf freeChunk grantedChunk tagAt freeVerdict zoneVerdict sizedVerdict allocatedVerdict stamped fieldIs shaped sheetOf measured numbered openedOf placeOf recordWord takenChunk takenHead takenOf allocatePlan grantedAreas allocateOf heldChunk heldAt heldOf freePlan freedAreas freeOf storePlan storedAreas storeOf
+unfolding areas₀ world₀ answer₀ calls₀ calls₁ run put layOutPlan layOutOf lawful sizesLawful basesLawful laidAreas sheetBytes recordBytes flat linkTo part number bytesOf numberAt repeated differenceFrom tagOf patternWord patternOf codeOf decodedOf chunkOf freeChunk grantedChunk tagAt freeVerdict zoneVerdict sizedVerdict allocatedVerdict stamped fieldIs shaped sheetOf measured numbered openedOf placeOf recordWord takenChunk takenHead takenOf allocatePlan grantedAreas allocateOf heldChunk heldAt heldOf freePlan freedAreas freeOf storePlan storedAreas storeOf
 evaluated = record {
   first = refl;
   second = refl;

@@ -16,7 +16,7 @@ use Rattle.tags.specs.declared.tag.Tag.{Tag}
 use Rattle.chunks.specs.declared.chunk.Grant.{Grant}
 use Rattle.chunks.specs.declared.chunk.Grant.the-variants as grant
 use Rattle.tags.specs.declared.verdict.Verdict.{Verdict}
-use Rattle.tags.proofs.Laws.{tag-pattern}
+use Rattle.tags.proofs.Tags.{tag-pattern}
 use Rattle.opening.specs.Areas.{Areas, bufferAddress, recordAddress}
 use Rattle.area.specs.Record.{addressWord}
 use Rattle.verdicts.specs.Chain.{occ}
@@ -93,7 +93,7 @@ module _ (g : Sheet) (laid : Laid g) {head : ℕ} {a : Areas} {out : ℕ → Opt
   unfolding verdictOf judged
   verdict-is i h =
       rw (own-is i h, chain-is, v .chunks i h)
-      (owned-for (g .size) (recordAddress g i) (laid .law .most) (record-fits g laid i h) (out (bufferAddress g i)) (v .loans i h) (occ i chain) (v .each i h))
+      (owned-for (g .size) (recordAddress g i) (laid .law .sizes .most) (record-fits g laid i h) (out (bufferAddress g i)) (v .loans i h) (occ i chain) (v .each i h))
 
 noted-count : (o : Option Loan) (v : Verdict) → v ≡ asNoted o → foundAllocated (λ i. v) 1 ≡ outs o
 unfolding foundAllocated

@@ -1,44 +1,36 @@
 -- An accepted call keeps the invariant. Assumes nothing.
 use mathlib.Core.Path.{_≡_, refl, sym, ap, _∙_, subst}
 use mathlib.Core.Logic.{_≢_, inl, inr}
-use mathlib.Core.Bool.{true}
 use mathlib.Core.List.{List, _∷_, _++_}
 use mathlib.Core.Option.{Option, none, some}
-use Prim.Native.Nat.{ℕ, _+_, _*_, _%_, _≤_, _<_}
+use Prim.Native.Nat.{ℕ, _+_, _*_, _≤_, _<_}
 use native.Mathlib.Nat.{add-zero}
 use native.Mathlib.Omega.{arith}
-use borrow.Author.Tests.{leb-true}
-use lib.Dec.{leb}
 use lib.ListN.{length, length-append}
 use lib.Seq.{sets, length-sets}
 use Rattle.words.specs.Word.{part, number, bytesOf, numberAt}
-use Rattle.words.proofs.Laws.{length-bytesOf, part-written, part-inside, part-place, part-field, numberAt-written}
+use Rattle.words.proofs.Numbers.{length-bytesOf, numberAt-written}
+use Rattle.words.proofs.Parts.{part-written, part-inside, part-place, part-field}
 use Rattle.chunks.specs.Chunk.{LawfulGrant, freeChunk, grantedChunk}
-use Rattle.tags.proofs.Laws.{and-true}
 use Rattle.chunks.proofs.Chunks.{length-freeChunk, length-grantedChunk}
 use Rattle.chunks.specs.declared.chunk.Grant.{Grant}
-use Rattle.chunks.specs.declared.chunk.Grant.the-variants as grant
 use Rattle.opening.specs.Areas.{Areas, bufferAddress, recordAddress, chunkAt}
 use Rattle.area.specs.Record.{stamped, recordSize, recordWord, nextWord}
 use Rattle.verdicts.specs.Chain.{occ}
 use Rattle.verdicts.specs.Walk.{Linked}
-use Rattle.allocation.specs.Allocate.{lawfulSize, grantedAreas}
+use Rattle.allocation.specs.Allocate.{grantedAreas}
 use Rattle.holding.specs.Free.{freedAreas}
 use Rattle.holding.specs.Store.{storedAreas}
 use Rattle.opening.specs.declared.sheet.Sheet.{Sheet}
 use Rattle.opening.proofs.Sheets.{chunk-inside, record-inside}
-use Rattle.verdicts.proofs.Chains.{occ-cons, occ-here, occ-apart, linked-same}
+use Rattle.verdicts.proofs.Marks.{occ-cons, occ-here, occ-apart}
+use Rattle.verdicts.proofs.Chains.{linked-same}
 use Rattle.ledger.specs.Ledger.{Loan, put, fresh, laidOver, grantSize, headed}
 use Rattle.ledger.proofs.Chunks.{chunkFor, LawfulLoan, grant-within, fresh-chunk, fresh-lawful, store-chunk, store-lawful}
 use Rattle.ledger.proofs.Sheets.{sheet-head}
 use Rattle.ledger.proofs.Counts.{at-put, stray-put}
 use Rattle.ledger.proofs.State.{Laid, outs, Holds, chunk-some, first-address, rest-linked, head-fits}
 use Rattle.ledger.proofs.Calls.{spot, hold, taken-below, chunk-is, loan-is}
-
--- a request of lawful size is a lawful grant
-pub lawful-grant : (size : ℕ) (q : Grant) → lawfulSize q size ≡ true → LawfulGrant size q
-lawful-grant size grant.Whole e = tt
-lawful-grant size (grant.Sized s) e = let b = and-true (leb 1 s) (leb s size) e in (leb-true 1 s (b .0), leb-true s size (b .1))
 
 -- ---- the words of the records
 
@@ -58,7 +50,7 @@ length-stamped r j uptime thread = length-sets r (j * recordSize + 16) (bytesOf 
 next-same : (r : List ℕ) (j w : ℕ) → w < 4294967296 → j * recordSize + 4 ≤ length r → recordWord (sets r (j * recordSize + 0) (bytesOf 4 w)) j 0 ≡ w
 unfolding recordWord
 next-same r j w h l =
-    numberAt-written 4 r (j * recordSize + 0) w (omega arith) ∙ (let e : w % 4294967296 ≡ w = omega arith in e)
+    numberAt-written 4 r (j * recordSize + 0) w (omega arith) h
 
 next-other : (r : List ℕ) (j w i : ℕ) → i ≢ j → recordWord (sets r (j * recordSize + 0) (bytesOf 4 w)) i 0 ≡ recordWord r i 0
 unfolding recordWord numberAt
@@ -84,7 +76,7 @@ module _ (g : Sheet) (laid : Laid g) where
   -- a chunk that is written whole
   same-chunk : (c l : List ℕ) (j : ℕ) → length c ≡ g .size + 16 → length l ≡ g .count * g .chunk → j < g .count → part (sets l (j * g .chunk) c) (j * g .chunk) (g .chunk) ≡ c
   same-chunk c l j e el h =
-      part-written l c (j * g .chunk) (g .chunk) (omega (arith, laid .law .chunks)) (omega (arith, chunk-inside g (laid .law) j h))
+      part-written l c (j * g .chunk) (g .chunk) (omega (arith, laid .law .sizes .chunks)) (omega (arith, chunk-inside g (laid .law) j h))
 
   pub granted-holds : {head : ℕ} {a : Areas} {out : ℕ → Option Loan} {j : ℕ} {js : List ℕ} (q : Grant) (uptime thread : ℕ) → LawfulGrant (g .size) q
       → Holds g head a out (j ∷ js)
@@ -113,7 +105,7 @@ module _ (g : Sheet) (laid : Laid g) where
             (same-chunk c (a .heap) j long (v .heapLong) h
             ∙ ap (λ (x : ℕ). grantedChunk (g .size) x q) at
             ∙ fresh-chunk (g .size) (recordAddress g j) q l)
-            (λ i k ne. whole-chunk c (a .heap) (g .chunk) i j (omega (arith, laid .law .chunks)) ne ∙ v .chunks i k);
+            (λ i k ne. whole-chunk c (a .heap) (g .chunk) i j (omega (arith, laid .law .sizes .chunks)) ne ∙ v .chunks i k);
         names = λ i k. stamped-word (a .records) j uptime thread i 4 (omega arith) ∙ v .names i k;
         loans = at-put (g .heap) (g .chunk) (g .count) j (chunk-some g laid) new out (λ i x. LawfulLoan (g .size) x)
             (fresh-lawful (g .size) q l) (λ i k ne. v .loans i k);
@@ -150,7 +142,7 @@ module _ (g : Sheet) (laid : Laid g) where
         only = λ i k. let ne : i ≢ j = omega arith in omega (arith, v .only i k, occ-apart i j chain ne);
         chunks = at-put (g .heap) (g .chunk) (g .count) j (chunk-some g laid) none out (λ i x. chunkAt g heap i ≡ chunkFor (g .size) (recordAddress g i) x)
             (same-chunk c (a .heap) j long (v .heapLong) h)
-            (λ i k ne. whole-chunk c (a .heap) (g .chunk) i j (omega (arith, laid .law .chunks)) ne ∙ v .chunks i k);
+            (λ i k ne. whole-chunk c (a .heap) (g .chunk) i j (omega (arith, laid .law .sizes .chunks)) ne ∙ v .chunks i k);
         names = λ i k. stamped-word before j uptime thread i 4 (omega arith) ∙ next-name (a .records) j head i ∙ v .names i k;
         loans = at-put (g .heap) (g .chunk) (g .count) j (chunk-some g laid) none out (λ i x. LawfulLoan (g .size) x) tt (λ i k ne. v .loans i k);
         stray = λ x q. stray-put (g .heap) (g .chunk) (g .count) j (chunk-some g laid) none out x h q ∙ v .stray x q;
@@ -164,7 +156,7 @@ module _ (g : Sheet) (laid : Laid g) where
       let l = loan-is g laid v j h (some o) e in
       let new : Option Loan = laidOver offset bytes (some o) in
       let heap = sets (a .heap) (j * g .chunk + offset) bytes in
-      let inside : offset + length bytes ≤ g .chunk = omega (arith, grant-within (g .size) (o .grant) (l .0), laid .law .chunks) in
+      let inside : offset + length bytes ≤ g .chunk = omega (arith, grant-within (g .size) (o .grant) (l .0), laid .law .sizes .chunks) in
       record {
         sheetIs = v .sheetIs;
         heapLong = length-sets (a .heap) (j * g .chunk + offset) bytes ∙ v .heapLong;

@@ -1,4 +1,3 @@
-pub mod Runs
 pub mod Chunks
 pub mod Sheets
 pub mod Counts

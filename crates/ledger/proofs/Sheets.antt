@@ -2,11 +2,10 @@
 use mathlib.Core.Path.{_≡_, refl, ap, _∙_}
 use mathlib.Core.Bool.{true}
 use mathlib.Core.List.{List}
-use Prim.Native.Nat.{ℕ, _%_, _<_}
-use native.Mathlib.Omega.{arith}
+use Prim.Native.Nat.{ℕ, _^_, _<_}
 use borrow.Author.Tests.{eq-eqb}
 use Rattle.words.specs.Word.{part, number, bytesOf, numberAt}
-use Rattle.words.proofs.Laws.{number-bytesOf}
+use Rattle.words.proofs.Numbers.{number-back}
 use Rattle.opening.specs.Areas.{withHead}
 use Rattle.opening.specs.Sheet.{fieldIs, shaped, sheetOf, heapLength, recordsLength, lawful, measured, numbered, openedOf}
 use Rattle.layout.specs.Layout.{sheetBytes}
@@ -34,59 +33,36 @@ pub record Fits (g : Sheet) : Type 0 where
   pub head : g .head < 4294967296
   pub flags : g .flags < 65536
 
-four : (s : List ℕ) (at v : ℕ) → part s at 4 ≡ bytesOf 4 v → v < 4294967296 → numberAt 4 s at ≡ v
+body-back : (k : ℕ) (s : List ℕ) (at v : ℕ) → part s at k ≡ bytesOf k v → v < 256 ^ k → numberAt k s at ≡ v
 unfolding numberAt
-four s at v e h = ap number e ∙ number-bytesOf 4 v ∙ (let q : v % 4294967296 ≡ v = omega arith in q)
-
-two : (s : List ℕ) (at v : ℕ) → part s at 2 ≡ bytesOf 2 v → v < 65536 → numberAt 2 s at ≡ v
-unfolding numberAt
-two s at v e h = ap number e ∙ number-bytesOf 2 v ∙ (let q : v % 65536 ≡ v = omega arith in q)
+body-back k s at v e h = ap number e ∙ number-back k v h
 
 module _ (g : Sheet) where
-  at-cache : part (sheetBytes g) 3 4 ≡ bytesOf 4 (g .cache)
+  -- where the bodies stand
+  bodies :
+      (part (sheetBytes g) 3 4 ≡ bytesOf 4 (g .cache))
+      × (part (sheetBytes g) 10 4 ≡ bytesOf 4 (g .heap))
+      × (part (sheetBytes g) 17 4 ≡ bytesOf 4 (g .records))
+      × (part (sheetBytes g) 24 2 ≡ bytesOf 2 (g .size))
+      × (part (sheetBytes g) 29 2 ≡ bytesOf 2 (g .chunk))
+      × (part (sheetBytes g) 34 2 ≡ bytesOf 2 (g .count))
+      × (part (sheetBytes g) 39 4 ≡ bytesOf 4 (g .head))
+      × (part (sheetBytes g) 46 2 ≡ bytesOf 2 (g .flags))
   unfolding part bytesOf sheetBytes
-  at-cache = refl
-
-  at-heap : part (sheetBytes g) 10 4 ≡ bytesOf 4 (g .heap)
-  unfolding part bytesOf sheetBytes
-  at-heap = refl
-
-  at-records : part (sheetBytes g) 17 4 ≡ bytesOf 4 (g .records)
-  unfolding part bytesOf sheetBytes
-  at-records = refl
-
-  at-size : part (sheetBytes g) 24 2 ≡ bytesOf 2 (g .size)
-  unfolding part bytesOf sheetBytes
-  at-size = refl
-
-  at-chunk : part (sheetBytes g) 29 2 ≡ bytesOf 2 (g .chunk)
-  unfolding part bytesOf sheetBytes
-  at-chunk = refl
-
-  at-count : part (sheetBytes g) 34 2 ≡ bytesOf 2 (g .count)
-  unfolding part bytesOf sheetBytes
-  at-count = refl
-
-  at-head : part (sheetBytes g) 39 4 ≡ bytesOf 4 (g .head)
-  unfolding part bytesOf sheetBytes
-  at-head = refl
-
-  at-flags : part (sheetBytes g) 46 2 ≡ bytesOf 2 (g .flags)
-  unfolding part bytesOf sheetBytes
-  at-flags = refl
+  bodies = (refl, refl, refl, refl, refl, refl, refl, refl)
 
   pub sheet-read : Fits g → sheetOf (sheetBytes g) ≡ g
   unfolding sheetOf
   sheet-read f =
       rw (
-        four (sheetBytes g) 3 (g .cache) at-cache (f .cache),
-        four (sheetBytes g) 10 (g .heap) at-heap (f .heap),
-        four (sheetBytes g) 17 (g .records) at-records (f .records),
-        two (sheetBytes g) 24 (g .size) at-size (f .size),
-        two (sheetBytes g) 29 (g .chunk) at-chunk (f .chunk),
-        two (sheetBytes g) 34 (g .count) at-count (f .count),
-        four (sheetBytes g) 39 (g .head) at-head (f .head),
-        two (sheetBytes g) 46 (g .flags) at-flags (f .flags),
+        body-back 4 (sheetBytes g) 3 (g .cache) (bodies .0) (f .cache),
+        body-back 4 (sheetBytes g) 10 (g .heap) (bodies .1) (f .heap),
+        body-back 4 (sheetBytes g) 17 (g .records) (bodies .2) (f .records),
+        body-back 2 (sheetBytes g) 24 (g .size) (bodies .3) (f .size),
+        body-back 2 (sheetBytes g) 29 (g .chunk) (bodies .4) (f .chunk),
+        body-back 2 (sheetBytes g) 34 (g .count) (bodies .5) (f .count),
+        body-back 4 (sheetBytes g) 39 (g .head) (bodies .6) (f .head),
+        body-back 2 (sheetBytes g) 46 (g .flags) (bodies .7) (f .flags),
       )
 
   -- and the image opens

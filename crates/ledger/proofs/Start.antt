@@ -8,20 +8,23 @@ use native.Mathlib.Decide.{decLt}
 use native.Mathlib.Omega.{arith}
 use lib.Dec.{eqb, lit<}
 use lib.ListN.{length, replicate, length-append}
-use Rattle.words.specs.Word.{part, number, bytesOf, numberAt}
+use Rattle.words.specs.Word.{part, flat, number, bytesOf, numberAt}
 use Rattle.words.specs.Run.{pick}
-use Rattle.words.proofs.Laws.{part-part, part-left, part-right, part-all, part-front, length-bytesOf}
-use Rattle.opening.specs.Areas.{Areas, refusedWith, bufferAddress}
-use Rattle.opening.specs.Sheet.{lawful, lengthsRight}
+use Rattle.words.proofs.Numbers.{length-bytesOf, number-back}
+use Rattle.words.proofs.Parts.{part-part, part-left, part-right, part-all, part-front, length-flat, part-flat}
+use Rattle.opening.specs.Areas.{Areas, Result, refusedWith, bufferAddress}
+use Rattle.opening.specs.Sheet.{lawful, lengthsRight, measured, numbered, onOpened}
 use Rattle.area.specs.Record.{recordWord, addressWord, nextWord}
 use Rattle.verdicts.specs.Walk.{Linked}
-use Rattle.layout.specs.Layout.{flat, linkTo, laidSheet, recordBytes, laidAreas, layOutOf}
+use Rattle.layout.specs.Layout.{linkTo, laidSheet, recordBytes, laidAreas, layOutPlan, layOutOf}
 use Rattle.opening.specs.declared.sheet.Sheet.{Sheet}
 use Rattle.area.specs.declared.refusal.Refusal.the-variants.{BadSheet, BadNumber, BadLength}
+use Rattle.opening.specs.declared.sheet.Opened.the-variants as opened
+use Rattle.opening.specs.declared.sheet.Opened.the-variants.{Image}
+use Rattle.area.specs.declared.refusal.Outcome.{Outcome}
 use Rattle.area.specs.declared.refusal.Outcome.the-variants.{Done, Refused}
 use Rattle.opening.proofs.Sheets.{lawful-known, buffer-word}
-use Rattle.layout.proofs.Layouts.{length-flat, part-flat, link-in, link-out, length-recordBytes, laid-chunk, laid-long}
-use Rattle.ledger.proofs.Chunks.{word-back}
+use Rattle.layout.proofs.Layouts.{link-in, link-out, length-recordBytes, laid-chunk, laid-long}
 use Rattle.ledger.proofs.Counts.{range, occ-within, occ-above}
 use Rattle.ledger.proofs.State.{Laid, Holds, record-fits, chunk-some}
 
@@ -60,7 +63,7 @@ module _ (g : Sheet) (laid : Laid g) where
       laid-word j 0 h (omega arith)
       ∙ ap number
       (first-two x y (bytesOf 4 0) (bytesOf 4 (g .cache)) (replicate 80 0) 0 x (part-front (bytesOf 4 x) (bytesOf 4 y) 4 (length-bytesOf 4 x)) (omega arith))
-      ∙ word-back x (link-fits (suc j))
+      ∙ number-back 4 x (link-fits (suc j))
 
   laid-name : (j : ℕ) → j < g .count → addressWord (flat (g .count) (recordBytes g)) j ≡ bufferAddress g j
   unfolding recordBytes
@@ -72,7 +75,7 @@ module _ (g : Sheet) (laid : Laid g) where
       (first-two x y (bytesOf 4 0) (bytesOf 4 (g .cache)) (replicate 80 0) 4 y
       (part-right (bytesOf 4 x) (bytesOf 4 y) 4 0 4 (omega (arith, length-bytesOf 4 x)) ∙ part-all (bytesOf 4 y) 4 (length-bytesOf 4 y))
       (omega arith))
-      ∙ word-back y (omega (arith, buffer-word g (laid .law) j h, chunk-some g laid))
+      ∙ number-back 4 y (omega (arith, buffer-word g (laid .law) j h, chunk-some g laid))
 
   laid-linked : (i m : ℕ) → i + m ≡ g .count → Linked (nextWord (flat (g .count) (recordBytes g))) (g .records) (g .count) (linkTo g i) (range i m)
   unfolding Linked range
@@ -94,7 +97,7 @@ module _ (g : Sheet) (laid : Laid g) where
     heapLong = length-flat (g .chunk) (laid-chunk g) (laid-long g (laid .law)) (g .count);
     recordsLong = length-flat 96 (recordBytes g) (length-recordBytes g) (g .count);
     linked = subst (λ (x : ℕ). Linked (nextWord (flat (g .count) (recordBytes g))) (g .records) (g .count) x (range 0 (g .count)))
-        (link-in g 0 (laid .law .some) ∙ omega arith)
+        (link-in g 0 (laid .law .sizes .some) ∙ omega arith)
         (laid-linked 0 (g .count) (omega arith));
     each = λ j h. omega (arith, occ-within 0 (g .count) j (omega arith) (omega arith));
     only = λ j h. occ-above 0 (g .count) j (omega arith);
@@ -106,20 +109,22 @@ module _ (g : Sheet) (laid : Laid g) where
 
 -- ---- an accepted lay out
 
-three : (p q r : Bool) (a b : Areas) → pick p (pick q (pick r (record { answer = Done; areas = b }) (refusedWith (Refused BadLength) a)) (refusedWith (Refused BadNumber) a)) (refusedWith (Refused BadSheet) a) .answer ≡ Done
-    → (q ≡ true) × (pick p (pick q (pick r (record { answer = Done; areas = b }) (refusedWith (Refused BadLength) a)) (refusedWith (Refused BadNumber) a)) (refusedWith (Refused BadSheet) a) .areas ≡ b)
-three true true true a b e = (refl, refl)
-three true true false a b e = absurd (let z : _≡_ {A = ℕ} 0 1 = cc in omega arith)
-three true false r a b e = absurd (let z : _≡_ {A = ℕ} 0 1 = cc in omega arith)
-three false q r a b e = absurd (let z : _≡_ {A = ℕ} 0 1 = cc in omega arith)
+three : (p q r : Bool) (a : Areas) (g : Sheet) →
+    let o = pick p (pick q (pick r (Image g) (opened.Refused BadLength)) (opened.Refused BadNumber)) (opened.Refused BadSheet) in
+    let done = onOpened {A = Result Outcome} o (λ s. record { answer = Done; areas = laidAreas s }) (λ why. refusedWith (Refused why) a) in
+    done .answer ≡ Done → (q ≡ true) × (done .areas ≡ laidAreas g)
+three true true true a g e = (refl, refl)
+three true true false a g e = absurd (let z : _≡_ {A = ℕ} 0 1 = cc in omega arith)
+three true false r a g e = absurd (let z : _≡_ {A = ℕ} 0 1 = cc in omega arith)
+three false q r a g e = absurd (let z : _≡_ {A = ℕ} 0 1 = cc in omega arith)
 
 -- its numbers passed, and its areas are those of the image laid out
 pub accepted : (a : Areas) (cache heap records size n : ℕ) → layOutOf a cache heap records size n .answer ≡ Done
     → (lawful (laidSheet cache heap records size n) ≡ true) × (layOutOf a cache heap records size n .areas ≡ laidAreas (laidSheet cache heap records size n))
-unfolding layOutOf
+unfolding layOutOf layOutPlan numbered measured
 accepted a cache heap records size n e =
     three (eqb (length (a .sheet)) 48) (lawful (laidSheet cache heap records size n))
-    (lengthsRight (laidSheet cache heap records size n) (length (a .heap)) (length (a .records))) a (laidAreas (laidSheet cache heap records size n)) e
+    (lengthsRight (laidSheet cache heap records size n) (length (a .heap)) (length (a .records))) a (laidSheet cache heap records size n) e
 
 pub laid-known : (cache heap records size n : ℕ) → cache < 4294967296 → lawful (laidSheet cache heap records size n) ≡ true → Laid (laidSheet cache heap records size n)
 laid-known cache heap records size n h e = record {

@@ -8,7 +8,7 @@ use Prim.Native.Nat.{ℕ, _+_, _≤_, _<_}
 use native.Mathlib.Decide.{decLt}
 use native.Mathlib.Omega.{arith}
 use lib.ListN.{length}
-use Rattle.words.proofs.Laws.{below}
+use Rattle.words.proofs.Parts.{below}
 use Rattle.opening.specs.Areas.{Areas, bufferAddress, recordAddress, chunkAt}
 use Rattle.opening.specs.Sheet.{heapLength, recordsLength, lawful, Lawful, openedOf}
 use Rattle.area.specs.Place.{placeOf}
@@ -55,10 +55,10 @@ module _ (g : Sheet) (laid : Laid g) where
   record-fits j h = omega (arith, record-word g (laid .law) j h)
 
   pub records-some : g .records ≢ 0
-  records-some e = omega (arith, laid .law .recordsSome)
+  records-some e = omega (arith, laid .law .bases .recordsSome)
 
   pub chunk-some : 0 < g .chunk
-  chunk-some = omega (arith, laid .law .chunks)
+  chunk-some = omega (arith, laid .law .sizes .chunks)
 
   -- the first of a linked list, and the word that leads to it
   pub first-below : (next : ℕ → ℕ) (head j : ℕ) (js : List ℕ) → Linked next (g .records) (g .count) head (j ∷ js) → j < g .count
@@ -86,14 +86,14 @@ module _ (g : Sheet) (laid : Laid g) where
   pub fits : (head : ℕ) → head < 4294967296 → Fits (headed g head)
   fits head h =
       let law = laid .law in
-      let one : 0 < g .count = law .some in
+      let one : 0 < g .count = law .sizes .some in
       record {
         cache = laid .cacheFits;
-        heap = omega (arith, below (g .chunk) one, law .heapFits, chunk-some);
+        heap = omega (arith, below (g .chunk) one, law .bases .heapFits, chunk-some);
         records = omega (arith, record-fits 0 one);
-        size = omega (arith, law .most);
-        chunk = omega (arith, law .most, law .chunks);
-        count = omega (arith, law .few);
+        size = omega (arith, law .sizes .most);
+        chunk = omega (arith, law .sizes .most, law .sizes .chunks);
+        count = omega (arith, law .sizes .few);
         head = h;
         flags = laid .flagsFit;
       }

@@ -23,7 +23,7 @@ use Rattle.area.specs.declared.refusal.Refusal.the-variants.{NoRoom}
 use Rattle.allocation.specs.declared.allocate.Allocated.{Allocated}
 use Rattle.allocation.specs.declared.allocate.Allocated.the-variants as allocated
 use Rattle.holding.specs.declared.show.Shown.the-variants as shown
-use Rattle.verdicts.proofs.Chains.{occ-none}
+use Rattle.verdicts.proofs.Marks.{occ-none}
 use Rattle.ledger.specs.Ledger.{Loan, World, headed, timesMet, isOut, Sound, Claim}
 use Rattle.ledger.proofs.State.{Laid, outs, Holds, opens}
 use Rattle.ledger.proofs.Found.{noted-sound, own-is, chain-is, verdict-is, found-count}

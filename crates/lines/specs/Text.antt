@@ -8,6 +8,7 @@ use Prim.Native.String.{String, [] as none, _∷_ as _then_}
 use lib.Dec.{eqb, leb, ltb}
 use lib.ListN.{length, getD}
 use lib.Seq.{sets}
+use Rattle.words.specs.Word.{flat}
 use Rattle.words.specs.Run.{pick}
 use Rattle.verdicts.specs.declared.chain.Ending.{Ending}
 use Rattle.verdicts.specs.declared.chain.Ending.the-variants.{End, Broken, Again}
@@ -33,6 +34,10 @@ decimalOf n = decimalWith (suc n) n
 abbrev pub fieldOf : ℕ → String → List ℕ
 fieldOf n s = decimalOf n ++ ascii s
 
+-- a word, and a number behind it on its line
+abbrev pub labelled : List ℕ → ℕ → List ℕ
+labelled word n = word ++ fieldOf n "\n"
+
 -- ---- lines
 
 -- "A report's first line is always `heap report 1`."
@@ -57,9 +62,8 @@ lineOf i number value =
     (pick (eqb number 2) (fieldOf i " allocated " ++ fieldOf value "\n") (faultLineOf i number value)))
 
 -- the lines of buffers 0 to n - 1, "one line per item", where `number` and `value` tell each buffer's verdict
-unfoldable pub linesOf : (ℕ → ℕ) → (ℕ → ℕ) → ℕ → List ℕ
-linesOf number value zero = []
-linesOf number value (suc i) = linesOf number value i ++ lineOf i (number i) (value i)
+abbrev pub linesOf : (ℕ → ℕ) → (ℕ → ℕ) → ℕ → List ℕ
+linesOf number value n = flat n (λ i. lineOf i (number i) (value i))
 
 -- "The chain line is `chain K end`, `chain K broken` or `chain K again R`, K records met and R a record index."
 unfoldable pub chainLineOf : ℕ → Ending → List ℕ
@@ -77,12 +81,12 @@ faultsIn number zero = 0
 faultsIn number (suc i) = faultsIn number i + faultOf (number i)
 
 -- the last line
-unfoldable pub faultsOf : ℕ → List ℕ
-faultsOf count = ascii "faults " ++ fieldOf count "\n"
+abbrev pub faultsOf : ℕ → List ℕ
+faultsOf count = labelled (ascii "faults ") count
 
 -- "`refused N` and a line feed"
-unfoldable pub refusalLineOf : ℕ → List ℕ
-refusalLineOf number = ascii "refused " ++ fieldOf number "\n"
+abbrev pub refusalLineOf : ℕ → List ℕ
+refusalLineOf number = labelled (ascii "refused ") number
 
 -- ---- the report
 
@@ -99,9 +103,10 @@ rowValue rows i = getD rows (3 * i + 2) 0
 
 -- ---- the output
 
--- the text was put into `entry` from `at` on, as far as it goes, and ends at `next`
+-- the text, which ends at `next`, was put into `entry` from `at` on, if the output goes so far
 pub record Wrote (entry : List ℕ) (at : ℕ) (text exit : List ℕ) (next : ℕ) : Type 0 where
-  pub filled : exit ≡ sets entry at text
+  pub long : length exit ≡ length entry
+  pub filled : next ≤ length entry → exit ≡ sets entry at text
   pub ends : next ≡ at + length text
 
 -- all or nothing: "The call answers the length filled", or that the output is "shorter than the exact need"

@@ -4,11 +4,12 @@ ghost use mathlib.Core.Path.{_≡_};
 ghost use mathlib.Core.List.{_++_};
 ghost use Prim.Native.Nat.{_+_, _*_, _^_, _≤_, _<_};
 ghost use lib.ListN.{length};
-ghost use Rattle.lines.specs.Text.{decimalOf, headerOf, hasOffset, faultLineOf, lineOf, chainLineOf, faultOf, faultsOf, rowNumber, rowValue, textOf, Wrote, writtenOf, outputOf, WrittenIf, refusalLineOf};
+ghost use Rattle.lines.specs.Text.{decimalOf, headerOf, hasOffset, faultLineOf, lineOf, chainLineOf, faultOf, faultsOf, labelled, rowNumber, rowValue, textOf, Wrote, writtenOf, outputOf, WrittenIf, refusalLineOf};
 ghost use Rattle.area.specs.Refusal.{refusalNumber};
 use area::refusal;
 use area::refusal::Refusal;
 use verdicts::chain::Ending;
+use words::run;
 
 // How long the text is, where the output has room for it.
 pub enum Written {
@@ -16,23 +17,18 @@ pub enum Written {
     Short,
 }
 
-// Puts the piece into the output from `at` on, and answers where the next piece goes. What lies past the output's end is
+// Puts the piece into the output from `at` on, and answers where the next piece goes. A piece that passes the output's end is
 // put nowhere, so that an empty output only counts.
 fn put(output: &mut [u8], at: usize, piece: &[u8]) -> usize
     requires { ⌜ at + length (now piece) < 2 ^ 64 ⌝ }
     ensures { λ r. ⌜ Wrote (now (output .entry)) at (now (piece .entry)) (now (output .exit)) r ⌝ }
 {
-    if output.len() <= at {
-        return at + piece.len();
+    let end = at + piece.len();
+    if output.len() < end {
+        return end;
     }
-    let mut k = 0;
-    while k < piece.len() {
-        if at + k < output.len() {
-            output[at + k] = piece[k];
-        }
-        k += 1;
-    }
-    at + k
+    run::write_run(output, at, piece);
+    end
 }
 
 // Puts the number in decimal.
@@ -122,14 +118,24 @@ fn put_chain(output: &mut [u8], at: usize, met: usize, ending: Ending) -> usize
     }
 }
 
+// Puts a line of a word and a number.
+fn put_labelled(output: &mut [u8], at: usize, word: &[u8], n: u64) -> usize
+    requires { ⌜ at < 2 ^ 61 ⌝ }
+    requires { ⌜ length (now word) ≤ 20 ⌝ }
+    ensures put { λ r. ⌜ Wrote (now (output .entry)) at (labelled (now (word .entry)) n) (now (output .exit)) r ⌝ }
+    ensures short { λ r. ⌜ r ≤ at + 60 ⌝ }
+{
+    let a = put(output, at, word);
+    put_field(output, a, n, b"\n")
+}
+
 // Puts the last line.
 fn put_faults(output: &mut [u8], at: usize, faults: usize) -> usize
     requires { ⌜ at < 2 ^ 61 ⌝ }
     ensures put { λ r. ⌜ Wrote (now (output .entry)) at (faultsOf faults) (now (output .exit)) r ⌝ }
     ensures short { λ r. ⌜ r ≤ at + 60 ⌝ }
 {
-    let a = put(output, at, b"faults ");
-    put_field(output, a, faults as u64, b"\n")
+    put_labelled(output, at, b"faults ", faults as u64)
 }
 
 // 1 for a verdict whose line is a fault line, else 0.
@@ -188,8 +194,7 @@ fn put_refusal(output: &mut [u8], number: u32) -> usize
     ensures put { λ r. ⌜ Wrote (now (output .entry)) 0 (refusalLineOf number) (now (output .exit)) r ⌝ }
     ensures short { λ r. ⌜ r ≤ 60 ⌝ }
 {
-    let a = put(output, 0, b"refused ");
-    put_field(output, a, number as u64, b"\n")
+    put_labelled(output, 0, b"refused ", number as u64)
 }
 
 // Writes `refused N` and a line feed to the output's start and answers its length; or nothing, where the output is too short.

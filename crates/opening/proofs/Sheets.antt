@@ -1,51 +1,34 @@
 -- What is known of a sheet that passed its tests. Assumes nothing.
 use mathlib.Core.Path.{_≡_, refl, sym, ap, subst, _∙_}
 use mathlib.Core.Logic.{_⊎_, inl, inr}
-use mathlib.Core.Bool.{Bool, true, false, _&&_, _||_, and-assoc, and-true as and-right}
+use mathlib.Core.Bool.{Bool, true, false, _&&_, _||_, and-assoc, and-true as and-right, and-eq-true-iff}
 use mathlib.Core.List.{List, _++_}
-use Prim.Native.Nat.{ℕ, _+_, _-_, _*_, _%_, _≤_, _<_}
+use Prim.Native.Nat.{ℕ, _+_, _-_, _*_, _≤_, _<_}
 use lib.ListN.{length, take, drop}
 use lib.Seq.{sets}
-use native.Mathlib.Nat.{mul-le-mul}
 use native.Mathlib.Omega.{arith}
 use borrow.Author.Tests.{eqb-true, eqb-false, leb-true, not-true}
-use lib.Dec.{eqb, leb}
-use Rattle.words.specs.Word.{part}
+use lib.Dec.{leb}
 use Rattle.words.specs.Run.{pick}
-use Rattle.words.proofs.Laws.{below, length-part, part-back}
+use Rattle.words.proofs.Parts.{below, length-part, part-lent, part-back}
 use Rattle.chunks.specs.Chunk.{ChunkLength, bufferSize}
-use Rattle.tags.proofs.Laws.{and-true}
 use Rattle.area.specs.Record.{recordSize}
-use Rattle.opening.specs.Sheet.{fields, fieldsFrom, shaped, sheetOf, lengthsRight, measured, numbered, openedOf, openedWithLog, onOpened, logRight, sizesLawful, basesLawful, lawful, Lawful, heapLength, recordsLength}
+use Rattle.opening.specs.Sheet.{shaped, sheetOf, lengthsRight, measured, numbered, openedOf, openedWithLog, onOpened, logRight, sizesLawful, basesLawful, lawful, Sizes, Bases, Lawful, heapLength, recordsLength}
 use Rattle.opening.specs.declared.sheet.Sheet.{Sheet}
 use Rattle.opening.specs.declared.sheet.Opened.{Opened}
 use Rattle.opening.specs.declared.sheet.Opened.the-variants.{Image, Refused}
 use Rattle.area.specs.declared.refusal.Refusal.the-variants.{BadSheet, BadNumber, BadLength}
 
--- a product of bounded numbers
-pub product-below : (a b p q : ℕ) → a ≤ p → b ≤ q → a * b ≤ p * q
-product-below a b p q h k = mul-le-mul h k
-
-pub record Sizes (size chunk n flags : ℕ) : Type 0 where
-  pub eights : size % 8 ≡ 0
-  pub least : 8 ≤ size
-  pub most : size ≤ 4096
-  pub chunks : chunk ≡ size + 16
-  pub some : 1 ≤ n
-  pub few : n ≤ 512
-  pub area : n * chunk ≤ 65536
-  pub flagsAre : flags ≡ 0x020f
-
 pub sizes-known : (size chunk n flags : ℕ) → sizesLawful size chunk n flags ≡ true → Sizes size chunk n flags
 unfolding sizesLawful
 sizes-known size chunk n flags e =
-    let a = and-true _ _ e in
-    let b = and-true _ _ (a .0) in
-    let c = and-true _ _ (b .0) in
-    let d = and-true _ _ (c .0) in
-    let f = and-true _ _ (d .0) in
-    let g = and-true _ _ (f .0) in
-    let h = and-true _ _ (g .0) in
+    let a = and-eq-true-iff _ _ .0 e in
+    let b = and-eq-true-iff _ _ .0 (a .0) in
+    let c = and-eq-true-iff _ _ .0 (b .0) in
+    let d = and-eq-true-iff _ _ .0 (c .0) in
+    let f = and-eq-true-iff _ _ .0 (d .0) in
+    let g = and-eq-true-iff _ _ .0 (f .0) in
+    let h = and-eq-true-iff _ _ .0 (g .0) in
     record {
       eights = eqb-true _ _ (h .0);
       least = leb-true _ _ (h .1);
@@ -61,24 +44,15 @@ or-true : (a b : Bool) → a || b ≡ true → (a ≡ true) ⊎ (b ≡ true)
 or-true true b e = inl refl
 or-true false b e = inr e
 
-pub record Bases (heap records heapLen recordsLen : ℕ) : Type 0 where
-  pub heapSome : 0 < heap
-  pub heapEights : heap % 8 ≡ 0
-  pub recordsSome : 0 < records
-  pub recordsEights : records % 8 ≡ 0
-  pub heapFits : heap + heapLen ≤ 4294967296
-  pub recordsFit : records + recordsLen ≤ 4294967296
-  pub apart : (heap + heapLen ≤ records) ⊎ (records + recordsLen ≤ heap)
-
-pub bases-known : (heap records heapLen recordsLen : ℕ) → basesLawful heap records heapLen recordsLen ≡ true → Bases heap records heapLen recordsLen
+bases-known : (heap records heapLen recordsLen : ℕ) → basesLawful heap records heapLen recordsLen ≡ true → Bases heap records heapLen recordsLen
 unfolding basesLawful
 bases-known heap records heapLen recordsLen e =
-    let a = and-true _ _ e in
-    let b = and-true _ _ (a .0) in
-    let c = and-true _ _ (b .0) in
-    let d = and-true _ _ (c .0) in
-    let f = and-true _ _ (d .0) in
-    let g = and-true _ _ (f .0) in
+    let a = and-eq-true-iff _ _ .0 e in
+    let b = and-eq-true-iff _ _ .0 (a .0) in
+    let c = and-eq-true-iff _ _ .0 (b .0) in
+    let d = and-eq-true-iff _ _ .0 (c .0) in
+    let f = and-eq-true-iff _ _ .0 (d .0) in
+    let g = and-eq-true-iff _ _ .0 (f .0) in
     record {
       heapSome = positive (eqb-false _ _ (not-true _ (g .0)));
       heapEights = eqb-true _ _ (g .1);
@@ -99,27 +73,7 @@ bases-known heap records heapLen recordsLen e =
 
 pub lawful-known : (g : Sheet) → lawful g ≡ true → Lawful g
 unfolding lawful
-lawful-known g e =
-    let both = and-true (sizesLawful (g .size) (g .chunk) (g .count) (g .flags)) (basesLawful (g .heap) (g .records) (heapLength g) (recordsLength g)) e in
-    let s = sizes-known (g .size) (g .chunk) (g .count) (g .flags) (both .0) in
-    let b = bases-known (g .heap) (g .records) (heapLength g) (recordsLength g) (both .1) in
-    record {
-      eights = s .eights;
-      least = s .least;
-      most = s .most;
-      chunks = s .chunks;
-      some = s .some;
-      few = s .few;
-      area = s .area;
-      flagsAre = s .flagsAre;
-      heapSome = b .heapSome;
-      heapEights = b .heapEights;
-      recordsSome = b .recordsSome;
-      recordsEights = b .recordsEights;
-      heapFits = b .heapFits;
-      recordsFit = b .recordsFit;
-      apart = b .apart;
-    }
+lawful-known g e = let both = and-eq-true-iff _ _ .0 e in record { sizes = sizes-known _ _ _ _ (both .0); bases = bases-known _ _ _ _ (both .1) }
 
 -- eight tests in a row, as the code joins them and as the rule does
 pub eight : {a b c d e f g h a' b' c' d' e' f' g' h' : Bool} → a ≡ a' → b ≡ b' → c ≡ c' → d ≡ d' → e ≡ e' → f ≡ f' → g ≡ g' → h ≡ h'
@@ -128,7 +82,7 @@ eight ea eb ec ed ee ef eg eh = rw (ea, eb, ec, ed, ee, ef, eg, eh) (simp (and-a
 
 pub shaped-long : (s : List ℕ) → shaped s ≡ true → length s ≡ 48
 unfolding shaped
-shaped-long s e = eqb-true (length s) 48 (and-true (eqb (length s) 48) (fieldsFrom fields 0 s) e .0)
+shaped-long s e = eqb-true (length s) 48 (and-eq-true-iff _ _ .0 e .0)
 
 -- ---- places in the areas of a lawful sheet
 
@@ -140,38 +94,34 @@ module _ (g : Sheet) (law : Lawful g) (i : ℕ) (h : i < g .count) where
   record-inside = below recordSize h
 
   pub chunk-small : i * g .chunk + g .chunk ≤ 65536
-  chunk-small = let k = chunk-inside in let a = law .area in omega arith
+  chunk-small = let k = chunk-inside in let a = law .sizes .area in omega arith
 
   pub record-small : i * recordSize + recordSize ≤ 49152
-  record-small = let f = law .few in omega arith
+  record-small = let f = law .sizes .few in omega arith
 
   -- a record's address is a word
   pub record-word : g .records + i * recordSize + recordSize ≤ 4294967296
-  record-word = let k = record-inside in let f = law .recordsFit in omega arith
+  record-word = let k = record-inside in let f = law .bases .recordsFit in omega arith
 
   -- and so is a buffer's
   pub buffer-word : g .heap + i * g .chunk + g .chunk ≤ 4294967296
-  buffer-word = let k = chunk-inside in let f = law .heapFits in omega arith
+  buffer-word = let k = chunk-inside in let f = law .bases .heapFits in omega arith
 
 -- the length of a chunk
 pub chunk-length : (g : Sheet) → Lawful g → ChunkLength (g .chunk)
-chunk-length g law = let e = law .chunks in let l = law .least in let m = law .most in let s = law .eights in record { least = omega arith; most = omega arith; eights = omega arith }
+chunk-length g law = let e = law .sizes .chunks in let l = law .sizes .least in let m = law .sizes .most in let s = law .sizes .eights in record { least = omega arith; most = omega arith; eights = omega arith }
 
 -- ---- the chunk of buffer i, as it is lent and given back
 
 module _ (l : List ℕ) (g : Sheet) (i : ℕ) (law : Lawful g) (long : length l ≡ heapLength g) (h : i < g .count) where
-  span : i * g .chunk + g .chunk - i * g .chunk ≡ g .chunk
-  span = omega arith
-
   inside : i * g .chunk + g .chunk ≤ length l
   inside = let c = chunk-inside g law i h in omega arith
 
   pub lent-long : length (take (i * g .chunk + g .chunk - i * g .chunk) (drop (i * g .chunk) l)) ≡ g .chunk
-  unfolding part
-  lent-long = ap (λ (n : ℕ). length (take n (drop (i * g .chunk) l))) span ∙ length-part l (i * g .chunk) (g .chunk) inside
+  lent-long = rw part-lent (length-part l (i * g .chunk) (g .chunk) inside)
 
   pub lent-size : bufferSize (take (i * g .chunk + g .chunk - i * g .chunk) (drop (i * g .chunk) l)) ≡ g .size
-  lent-size = let e = lent-long in let c = law .chunks in omega arith
+  lent-size = let e = lent-long in let c = law .sizes .chunks in omega arith
 
   pub lent-lawful : ChunkLength (length (take (i * g .chunk + g .chunk - i * g .chunk) (drop (i * g .chunk) l)))
   lent-lawful = subst ChunkLength (sym lent-long) (chunk-length g law)
@@ -181,10 +131,9 @@ module _ (l : List ℕ) (g : Sheet) (i : ℕ) (law : Lawful g) (long : length l 
       → ys ≡ f (bufferSize (take (i * g .chunk + g .chunk - i * g .chunk) (drop (i * g .chunk) l)))
       → take (i * g .chunk) l ++ (ys ++ drop (i * g .chunk + g .chunk - i * g .chunk) (drop (i * g .chunk) l)) ≡ sets l (i * g .chunk) (f (g .size))
   chunk-back f ys size e =
-      let c = law .chunks in
-      ap (λ (n : ℕ). take (i * g .chunk) l ++ (ys ++ drop n (drop (i * g .chunk) l))) span
-      ∙ ap (λ (vs : List ℕ). take (i * g .chunk) l ++ (vs ++ drop (g .chunk) (drop (i * g .chunk) l))) (e ∙ ap f lent-size)
-      ∙ part-back l (f (g .size)) (i * g .chunk) (g .chunk) (size (g .size) ∙ sym c) inside
+      let n : i * g .chunk + g .chunk - i * g .chunk ≡ g .chunk = omega arith in
+      let c = law .sizes .chunks in
+      rw (e ∙ ap f lent-size, n) (part-back l (f (g .size)) (i * g .chunk) (g .chunk) (size (g .size) ∙ sym c) inside)
 
 -- ---- an image that is open
 

@@ -94,23 +94,29 @@ basesLawful heap records heapLen recordsLen =
 unfoldable pub lawful : Sheet → Bool
 lawful g = sizesLawful (g .size) (g .chunk) (g .count) (g .flags) && basesLawful (g .heap) (g .records) (heapLength g) (recordsLength g)
 
--- the same, as what is known of a lawful sheet
+-- the same, as what is known of the numbers of a lawful sheet
+pub record Sizes (size chunk n flags : ℕ) : Type 0 where
+  pub eights : size % 8 ≡ 0
+  pub least : 8 ≤ size
+  pub most : size ≤ 4096
+  pub chunks : chunk ≡ size + 16
+  pub some : 1 ≤ n
+  pub few : n ≤ 512
+  pub area : n * chunk ≤ 65536
+  pub flagsAre : flags ≡ 0x020f
+
+pub record Bases (heap records heapLen recordsLen : ℕ) : Type 0 where
+  pub heapSome : 0 < heap
+  pub heapEights : heap % 8 ≡ 0
+  pub recordsSome : 0 < records
+  pub recordsEights : records % 8 ≡ 0
+  pub heapFits : heap + heapLen ≤ 4294967296
+  pub recordsFit : records + recordsLen ≤ 4294967296
+  pub apart : (heap + heapLen ≤ records) ⊎ (records + recordsLen ≤ heap)
+
 pub record Lawful (g : Sheet) : Type 0 where
-  pub eights : g .size % 8 ≡ 0
-  pub least : 8 ≤ g .size
-  pub most : g .size ≤ 4096
-  pub chunks : g .chunk ≡ g .size + 16
-  pub some : 1 ≤ g .count
-  pub few : g .count ≤ 512
-  pub area : g .count * g .chunk ≤ 65536
-  pub flagsAre : g .flags ≡ 0x020f
-  pub heapSome : 0 < g .heap
-  pub heapEights : g .heap % 8 ≡ 0
-  pub recordsSome : 0 < g .records
-  pub recordsEights : g .records % 8 ≡ 0
-  pub heapFits : g .heap + heapLength g ≤ 4294967296
-  pub recordsFit : g .records + recordsLength g ≤ 4294967296
-  pub apart : (g .heap + heapLength g ≤ g .records) ⊎ (g .records + recordsLength g ≤ g .heap)
+  pub sizes : Sizes (g .size) (g .chunk) (g .count) (g .flags)
+  pub bases : Bases (g .heap) (g .records) (heapLength g) (recordsLength g)
 
 -- ---- 3: the lengths, and the opening
 

@@ -1,5 +1,4 @@
 -- What a survey into a row for 512 buffers tells the report, and that the report's text speaks only of the buffers there are. Assumes nothing.
--- ---- the text looks at the first n buffers only
 use mathlib.Core.Path.{_≡_, refl, sym, ap, _∙_}
 use mathlib.Core.Bool.{Bool, true, false}
 use mathlib.Core.List.{List}
@@ -11,6 +10,7 @@ use lib.Dec.{leb}
 use lib.ListN.{length, getD}
 use lib.Seq.{sets}
 use Rattle.words.specs.Run.{pick}
+use Rattle.words.proofs.Parts.{flat-same}
 use Rattle.tags.specs.Verdict.{verdictNumber, verdictValue}
 use Rattle.opening.specs.Sheet.{openedWithLog, onOpened}
 use Rattle.verdicts.specs.Judge.{verdictOf, imageChain}
@@ -22,24 +22,19 @@ use Rattle.area.specs.declared.refusal.Refusal.{Refusal}
 use Rattle.area.specs.declared.refusal.Refusal.the-variants.{ShortOutput}
 use Rattle.opening.proofs.Sheets.{logged-law}
 use Rattle.image.proofs.Findings.{finding}
-use Rattle.lines.specs.Text.{textOf, linesOf, faultsIn, rowNumber, rowValue, writtenOf, outputOf}
+use Rattle.lines.specs.Text.{textOf, lineOf, faultsIn, rowNumber, rowValue, writtenOf, outputOf}
 use Rattle.report.specs.Answer.{reportText, Reporting, reportOf}
 use Rattle.report.specs.declared.answer.Reported.the-variants.{Length, Refused}
 use Rattle.opening.specs.declared.sheet.Opened.the-variants as opened
 use Rattle.image.specs.declared.inspect.Surveyed.the-variants as surveys
 use Rattle.lines.specs.declared.text.Written.the-variants as written
 
-module _ (f g u v : ℕ → ℕ) where
-  lines-same : (n : ℕ) → ((i : ℕ) → i < n → f i ≡ g i) → ((i : ℕ) → i < n → u i ≡ v i) → linesOf f u n ≡ linesOf g v n
-  unfolding linesOf
-  lines-same zero h k = refl
-  lines-same (suc n) h k =
-      rw (lines-same n (λ i l. h i (le-step l)) (λ i l. k i (le-step l)), h n (omega arith), k n (omega arith))
+-- ---- the text looks at the first n buffers only
 
-  faults-same : (n : ℕ) → ((i : ℕ) → i < n → f i ≡ g i) → faultsIn f n ≡ faultsIn g n
-  unfolding faultsIn
-  faults-same zero h = refl
-  faults-same (suc n) h = rw (faults-same n (λ i l. h i (le-step l)), h n (omega arith))
+faults-same : (f g : ℕ → ℕ) (n : ℕ) → ((i : ℕ) → i < n → f i ≡ g i) → faultsIn f n ≡ faultsIn g n
+unfolding faultsIn
+faults-same f g zero h = refl
+faults-same f g (suc n) h = rw (faults-same f g n (λ i l. h i (le-step l)), h n (omega arith))
 
 -- the text of the rows that a survey leaves is the text of the image
 pub rows-text : (g : Sheet) (heap records rows : List ℕ) → g .count * 3 ≤ length rows →
@@ -50,10 +45,9 @@ rows-text g heap records rows room =
     let r = sets rows 0 (tableOf g heap records) in
     let number : (i : ℕ) → i < g .count → rowNumber r i ≡ verdictNumber (verdictOf g heap records i) = (λ i h. at i 1 ∙ finding g heap records rows room i h 1 (omega arith)) in
     let value : (i : ℕ) → i < g .count → rowValue r i ≡ verdictValue (verdictOf g heap records i) = (λ i h. at i 2 ∙ finding g heap records rows room i h 2 (omega arith)) in
-    rw (
-      lines-same (rowNumber r) (λ i. verdictNumber (verdictOf g heap records i)) (rowValue r) (λ i. verdictValue (verdictOf g heap records i)) (g .count) number value,
-      faults-same (rowNumber r) (λ i. verdictNumber (verdictOf g heap records i)) (rowValue r) (λ i. verdictValue (verdictOf g heap records i)) (g .count) number,
-    )
+    let lines = flat-same (λ i. lineOf i (rowNumber r i) (rowValue r i)) (λ i. lineOf i (verdictNumber (verdictOf g heap records i)) (verdictValue (verdictOf g heap records i))) (g .count)
+    (λ i h. rw (number i h, value i h)) in
+    rw (lines, faults-same (rowNumber r) (λ i. verdictNumber (verdictOf g heap records i)) (g .count) number)
   where
     at : (i k : ℕ) → getD (sets rows 0 (tableOf g heap records)) (3 * i + k) 0 ≡ getD (sets rows 0 (tableOf g heap records)) (i * 3 + k) 0
     at i k = ap (λ (x : ℕ). getD (sets rows 0 (tableOf g heap records)) (x + k) 0) (mul-comm 3 i)
@@ -78,7 +72,7 @@ survey-long s heap records l rows long = go (openedWithLog s (length heap) (leng
         (λ why. record { answer = surveys.Refused why; rows = rows })
         ≡ surveyFrom o heap records rows
     go (opened.Image g) e =
-        let few = logged-law s (length heap) (length records) l g e .few in
+        let few = logged-law s (length heap) (length records) l g e .sizes .few in
         rw (le-leb (g .count * 3) (length rows) (omega arith))
     go (opened.Refused why) e = refl
 
@@ -121,7 +115,7 @@ module _ (s heap records : List ℕ) (l : ℕ) (rows output : List ℕ) (long : 
           ≡ allOrNothing (textOf (rowNumber r) (rowValue r) (v .count) (v .met) (v .ending)) output
       go (opened.Image g) p f k =
           let z : surveyed g records ≡ v = cc in
-          let few = logged-law s (length heap) (length records) l g p .few in
+          let few = logged-law s (length heap) (length records) l g p .sizes .few in
           ap (λ (t : List ℕ). allOrNothing t output)
           (sym (rows-text g heap records rows (omega arith))
           ∙ ap (λ (x : List ℕ). textOf (rowNumber x) (rowValue x) (g .count) (length (imageChain g records .met)) (imageChain g records .ending)) (sym k)

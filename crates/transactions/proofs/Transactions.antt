@@ -1,13 +1,12 @@
 -- The laws of the latest transaction: the row that is chosen is one of the log's, and its age is the smallest. Assumes nothing.
 use mathlib.Core.Path.{_≡_, refl}
-use mathlib.Core.Logic.{_⊎_, inl, inr}
 use mathlib.Core.Bool.{Bool, true, false, _&&_}
 use mathlib.Core.List.{List}
 use Prim.Native.Nat.{ℕ, zero, suc, _+_, _≤_, _<_}
 use native.Mathlib.Nat.{le-step, not-suc-le-zero}
-use native.Mathlib.Decide.{ℕ-discrete}
 use native.Mathlib.Numerals.{add-one}
 use native.Mathlib.Omega.{arith}
+use borrow.Author.Count.{below-more}
 use borrow.Author.Tests.{leb-true, leb-false}
 use lib.Dec.{leb}
 use Rattle.words.specs.Run.{pick}
@@ -15,14 +14,6 @@ use Rattle.transactions.specs.Latest.{rowNames, rowAge, considered, late
 use Rattle.area.specs.declared.place.Place.{Place}
 use Rattle.area.specs.declared.place.Place.the-variants.{At, Nowhere}
 use Rattle.transactions.specs.declared.latest.Best.{Best}
-
--- an index below the next is below this one or it
-last : (j n : ℕ) → j < suc n → (j < n) ⊎ (j ≡ n)
-last j n h = go (ℕ-discrete j n)
-  where
-    go : Dec (j ≡ n) → (j < n) ⊎ (j ≡ n)
-    go (yes e) = inr e
-    go (no d) = inl (omega arith)
 
 module _ (log : List ℕ) (a time : ℕ) where
   pub latest-none : (b : Best) → latestRow log a time b 0 ≡ b
@@ -60,39 +51,29 @@ module _ (log : List ℕ) (a time : ℕ) where
       → Smallest log a time stamp (suc n) (record { row = At n; age = rowAge log time n })
   smallest-taken stamp n b s e l = record {
     record-older = let h = s .record-older in omega arith;
-    rows-older = λ j k f. go j f (last j n k);
+    rows-older = λ j k. below-more (λ i. rowNames log a i ≡ true → rowAge log time n ≤ rowAge log time i) n
+        (λ i m f. let h = s .rows-older i m f in omega arith) (λ f. omega arith) j (omega arith);
     chosen = (omega arith, e, refl, λ j k m f. absurd (omega arith));
   }
-    where
-      go : (j : ℕ) → rowNames log a j ≡ true → (j < n) ⊎ (j ≡ n) → rowAge log time n ≤ rowAge log time j
-      go j f (inl k) = let h = s .rows-older j k f in omega arith
-      go j f (inr q) = rw q (omega arith)
 
   -- what was latest stays where the row names another record, or is older
   smallest-kept : (stamp n : ℕ) (b : Best) → Smallest log a time stamp n b → (rowNames log a n ≡ true → b .age < rowAge log time n)
       → Smallest log a time stamp (suc n) b
   smallest-kept stamp n b s older = record {
     record-older = s .record-older;
-    rows-older = λ j k f. go j f (last j n k);
+    rows-older = λ j k. below-more (λ i. rowNames log a i ≡ true → b .age ≤ rowAge log time i) n
+        (s .rows-older) (λ f. let h = older f in omega arith) j (omega arith);
     chosen = stays (b .row) (s .chosen);
   }
     where
-      go : (j : ℕ) → rowNames log a j ≡ true → (j < n) ⊎ (j ≡ n) → b .age ≤ rowAge log time j
-      go j f (inl k) = s .rows-older j k f
-      go j f (inr q) = let h = older (rw (← q) f) in rw q (omega arith)
-
-      after : (m : ℕ) → ((j : ℕ) → m < j → j < n → rowNames log a j ≡ true → b .age < rowAge log time j)
-          → (j : ℕ) → m < j → rowNames log a j ≡ true → (j < n) ⊎ (j ≡ n) → b .age < rowAge log time j
-      after m h j k f (inl l) = h j k l f
-      after m h j k f (inr q) = rw q (older (rw (← q) f))
-
-      any : ((j : ℕ) → j < n → rowNames log a j ≡ true → b .age < rowAge log time j) → (j : ℕ) → rowNames log a j ≡ true → (j < n) ⊎ (j ≡ n) → b .age < rowAge log time j
-      any h j f (inl l) = h j l f
-      any h j f (inr q) = rw q (older (rw (← q) f))
-
       stays : (p : Place) → ChosenAt log a time stamp n p (b .age) → ChosenAt log a time stamp (suc n) p (b .age)
-      stays (At m) c = (le-step (c .0), c .1, c .2, λ j k l f. after m (c .3) j k f (last j n l))
-      stays Nowhere c = (c .0, λ j l f. any (c .1) j f (last j n l))
+      stays (At m) c = (
+        le-step (c .0),
+        c .1,
+        c .2,
+        λ j k l. below-more (λ i. m < i → rowNames log a i ≡ true → b .age < rowAge log time i) n (λ i g h. c .3 i h g) (λ h. older) j (omega arith) k,
+      )
+      stays Nowhere c = (c .0, λ j l. below-more (λ i. rowNames log a i ≡ true → b .age < rowAge log time i) n (c .1) older j (omega arith))
 
   pub latest-smallest : (stamp n : ℕ) → Smallest log a time stamp n (latestRow log a time (firstBest stamp time) n)
   unfolding latestRow considered

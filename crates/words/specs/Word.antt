@@ -1,11 +1,16 @@
 -- Parts of a list of bytes, and numbers in bytes. "All numbers are big-endian." Assumes nothing.
-use mathlib.Core.List.{List, [], _∷_}
-use Prim.Native.Nat.{ℕ, zero, suc, _+_, _*_, _/_, _%_, _^_, _<_}
-use lib.ListN.{length, take, drop, getD}
+use mathlib.Core.List.{List, [], _∷_, _++_}
+use Prim.Native.Nat.{ℕ, zero, suc, _+_, _*_, _/_, _%_, _^_}
+use lib.ListN.{length, take, drop}
 
 -- the `len` bytes of `l` from `at` on
 unfoldable pub part : List ℕ → ℕ → ℕ → List ℕ
 part l at len = take len (drop at l)
+
+-- f 0, f 1, .. , f (n - 1), one after the other
+unfoldable pub flat : ℕ → (ℕ → List ℕ) → List ℕ
+flat zero f = []
+flat (suc n) f = flat n f ++ f n
 
 -- The byte order: `number` and `bytesOf`, and nothing else, say which byte of a number comes first.
 
@@ -22,7 +27,3 @@ bytesOf (suc k) v = v / 256 ^ k % 256 ∷ bytesOf k v
 -- the number of the k bytes of `l` from `at` on
 unfoldable pub numberAt : ℕ → List ℕ → ℕ → ℕ
 numberAt k l at = number (part l at k)
-
--- each element of `l` is a byte
-abbrev pub AreBytes : List ℕ → Type 0
-AreBytes l = (i : ℕ) → getD l i 0 < 256

@@ -45,13 +45,9 @@ pub fn first_difference(s: &[u8], at: usize, len: usize, w: u32) -> Difference
 }
 
 // Writes a run of bytes from an offset on.
-pub fn write_run(s: &mut [u8], at: usize, bytes: &[u8])
-    requires { ⌜ at + length (now bytes) ≤ length (now s) ⌝ }
-    ensures { λ _. ⌜ now (s .exit) ≡ sets (now (s .entry)) at (now (bytes .entry)) ⌝ }
+pub fn write_run(s: &mut [u8], at: usize, run: &[u8])
+    requires { ⌜ at + length (now run) ≤ length (now s) ⌝ }
+    ensures { λ _. ⌜ now (s .exit) ≡ sets (now (s .entry)) at (now (run .entry)) ⌝ }
 {
-    let mut i = 0;
-    while i < bytes.len() {
-        s[at + i] = bytes[i];
-        i += 1;
-    }
+    bytes::copy(run, &mut s[at..at + run.len()]);
 }

@@ -114,6 +114,15 @@ impl Image {
         }
     }
 
+    /// A byte of the sheet, the heap or the records, areas 0, 1 and 2.
+    pub fn byte_mut(&mut self, area: usize, at: usize) -> &mut u8 {
+        match area {
+            0 => &mut self.sheet[at],
+            1 => &mut self.heap[at],
+            _ => &mut self.records[at],
+        }
+    }
+
     /// The report program's input.
     pub fn input(&self) -> Vec<u8> {
         [&self.sheet[..], &self.heap, &self.records, &self.log].concat()

@@ -1,9 +1,7 @@
 -- What the plan found is written; a refusal writes nothing. Assumes nothing.
 use mathlib.Core.Path.{refl, subst}
 use borrow.Author.Needs.{needs}
-use Rattle.opening.specs.Areas.{areas}
-use Rattle.layout.specs.Layout.{PlannedIf}
-use Rattle.layout.proofs.Layouts.{by-plan}
+use Rattle.layout.specs.Layout.{layOutOf, PlannedIf}
 use Rattle.layout.proofs.lay_out.Statement.{statement}
 use Rattle.layout.proofs.lay_out.Tie as tie
 
@@ -23,9 +21,10 @@ commit-requires : tie.Need-commit-requires
 commit-requires c κs = subst (PlannedIf _ _ _) (c .before .before .before .before .planned2 .given .1) (c .before .before .before .before .before .before .plan .ensures .1)
 
 returns : tie.Need-returns
+unfolding layOutOf
 returns c =
-    let s = c .before .before .before .before .before .before .before .before .args in
-    rw (by-plan (areas (s .sheet .now) (s .heap .now) (s .records .now)) (s .cache) (s .heap-base) (s .record-base) (s .size) (s .count) (c .before .before .before .before .sheet-for .ensures) (c .before .before .before .plan .ensures .0) (c .before .planned .given .1)) (refl, (refl, (refl, refl)))
+    rw (← c .before .before .before .before .sheet-for .ensures, ← c .before .before .before .plan .ensures .0, c .before .planned .given .1)
+    (refl, (refl, (refl, refl)))
 
 same-length : tie.Need-same-length
 same-length c = search needs
@@ -37,9 +36,10 @@ same-length-3 : tie.Need-same-length-3
 same-length-3 c = search needs
 
 returns-2 : tie.Need-returns-2
+unfolding layOutOf
 returns-2 c =
-    let s = c .before .before .before .before .before .before .before .before .before .before .before .before .before .before .before .before .before .before .args in
-    rw (by-plan (areas (s .sheet .now) (s .heap .now) (s .records .now)) (s .cache) (s .heap-base) (s .record-base) (s .size) (s .count) (c .before .before .before .before .before .before .before .before .before .before .before .before .before .before .sheet-for .ensures) (c .before .before .before .before .before .before .before .before .before .before .before .before .before .plan .ensures .0) (c .before .before .before .before .before .before .before .before .before .before .before .planned2 .given .1)) (refl, c .before .before .before .before .before .before .commit .ensures)
+    rw (← c .before .before .before .before .before .before .before .before .before .before .before .before .before .before .sheet-for .ensures, ← c .before .before .before .before .before .before .before .before .before .before .before .before .before .plan .ensures .0, c .before .before .before .before .before .before .before .before .before .before .before .planned2 .given .1)
+    (refl, c .before .before .before .before .before .before .commit .ensures)
 
 pub lay-out-spec : {M : Type 1} → statement M
 lay-out-spec =

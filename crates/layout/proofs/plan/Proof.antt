@@ -1,20 +1,20 @@
 -- The sheet's length is tested, and then the numbers. Assumes nothing.
 use borrow.Author.Tests.{eq-eqb, ne-eqb}
 use borrow.Author.Needs.{needs}
-use Rattle.layout.specs.Layout.{planOf}
+use Rattle.layout.specs.Layout.{layOutPlan}
 use Rattle.layout.proofs.Layouts.{planned-if}
 use Rattle.layout.proofs.plan.Statement.{statement}
 use Rattle.layout.proofs.plan.Tie as tie
 
 returns : tie.Need-returns
-unfolding planOf
+unfolding layOutPlan
 returns c = (rw (ne-eqb _ _ (c .if1 .taken)), tt)
 
 judge-numbers-requires : tie.Need-judge-numbers-requires
 judge-numbers-requires c κs = search needs
 
 returns-2 : tie.Need-returns-2
-unfolding planOf
+unfolding layOutPlan
 returns-2 c =
     let s = c .before .before .args in (
       rw (eq-eqb _ _ (c .before .if1 .left)) (c .judge-numbers .ensures .0),

@@ -55,6 +55,14 @@ pub const EXTREMES: [Met; 5] = [
 /// Every way a chain stops.
 pub const ENDINGS: [Met; 3] = [Met::Chain("end"), Met::Chain("broken"), Met::Chain("again")];
 
+/// The refusals that inspect and report can give, by the rules.
+pub const READ_REFUSALS: [Met; 4] = [
+    Met::Refusal(1, 0),
+    Met::Refusal(2, 0),
+    Met::Refusal(3, 0),
+    Met::Refusal(11, 0),
+];
+
 impl Met {
     pub fn chain(ending: Ending) -> Met {
         Met::Chain(match ending {

@@ -8,19 +8,11 @@ use differential::samples::dump;
 use differential::{put_word, sound_image, Case, Image, Sequence};
 use reference::{chain, Finding, Refusal};
 
-use crate::counts::{Counts, Met, ENDINGS, EXTREMES, VERDICTS};
+use crate::counts::{Counts, Met, ENDINGS, EXTREMES, READ_REFUSALS, VERDICTS};
 use crate::lent::{expected_answer, expected_refusal, Guarded, Lent};
 
 const CASES: u64 = 60_000;
 const SEED: u64 = 0x1d5b_ec71;
-
-/// The refusals that inspect can give, by the rules.
-const REFUSALS: [Met; 4] = [
-    Met::Refusal(1, 0),
-    Met::Refusal(2, 0),
-    Met::Refusal(3, 0),
-    Met::Refusal(11, 0),
-];
 
 /// Inspects an image with room for so many numbers, by both, and answers what the
 /// reference finds.
@@ -96,7 +88,7 @@ fn hurt_images() {
         }
     }
     let hurts: Vec<Met> = HURTS.iter().map(|&(name, _)| Met::Hurt(name)).collect();
-    let wanted = [&VERDICTS[..], &ENDINGS, &REFUSALS, &EXTREMES, &hurts].concat();
+    let wanted = [&VERDICTS[..], &ENDINGS, &READ_REFUSALS, &EXTREMES, &hurts].concat();
     counts.finish("inspect, hurt images", SEED, &wanted);
 }
 
@@ -147,22 +139,13 @@ fn compare_values(
     sequence: &mut Sequence,
     counts: &mut Counts,
 ) {
-    let stood = *byte(image, area, at);
+    let stood = *image.byte_mut(area, at);
     for value in 0..=255 {
-        *byte(image, area, at) = value;
+        *image.byte_mut(area, at) = value;
         let found = compare(image, 10, sequence, image);
         note(counts, image, found);
     }
-    *byte(image, area, at) = stood;
-}
-
-/// A byte of the sheet, the heap or the records, areas 0, 1 and 2.
-fn byte(image: &mut Image, area: usize, at: usize) -> &mut u8 {
-    match area {
-        0 => &mut image.sheet[at],
-        1 => &mut image.heap[at],
-        _ => &mut image.records[at],
-    }
+    *image.byte_mut(area, at) = stood;
 }
 
 /// Every small R1 of the dump's allocated buffer, past the code of its buffer size,

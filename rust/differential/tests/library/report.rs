@@ -7,19 +7,11 @@ use differential::samples::dump;
 use differential::{Case, Image, Sequence};
 use reference::{chain, Refusal};
 
-use crate::counts::{Counts, Met, ENDINGS, VERDICTS};
+use crate::counts::{Counts, Met, ENDINGS, READ_REFUSALS, VERDICTS};
 use crate::lent::{expected_answer, expected_refusal, Guarded, Lent};
 
 const CASES: u64 = 60_000;
 const SEED: u64 = 0x3c84_a90d;
-
-/// The refusals that report can give, by the rules.
-const REFUSALS: [Met; 4] = [
-    Met::Refusal(1, 0),
-    Met::Refusal(2, 0),
-    Met::Refusal(3, 0),
-    Met::Refusal(11, 0),
-];
 
 /// Asks both for the report with so many bytes of room, and answers the reference's
 /// text.
@@ -99,7 +91,7 @@ fn hurt_images() {
         let found = compare(&case.image, room, &mut sequence, &case);
         note(&mut counts, &case.image, found);
     }
-    let wanted = [&VERDICTS[..], &ENDINGS, &REFUSALS].concat();
+    let wanted = [&VERDICTS[..], &ENDINGS, &READ_REFUSALS].concat();
     counts.finish("report, hurt images", SEED, &wanted);
 }
 

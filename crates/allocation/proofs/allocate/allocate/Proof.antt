@@ -32,7 +32,7 @@ cast-t26 : tie.Need-cast-t26
 cast-t26 c = let k = taken (c .before .before .before .before .before .before .before .before .before .before .before .before .before .before) in let b = chunk-small _ (k .ready .opened .law) _ (k .ready .buffer) in omega arith
 
 add-t27 : tie.Need-add-t27
-add-t27 c = let k = taken (c .before .before .before .before .before .before .before .before .before .before .before .before .before .before .before) in let b = buffer-word _ (k .ready .opened .law) _ (k .ready .buffer) in omega (arith, k .ready .opened .law .least, k .ready .opened .law .chunks)
+add-t27 c = let k = taken (c .before .before .before .before .before .before .before .before .before .before .before .before .before .before .before) in let b = buffer-word _ (k .ready .opened .law) _ (k .ready .buffer) in omega (arith, k .ready .opened .law .sizes .least, k .ready .opened .law .sizes .chunks)
 
 same-length : tie.Need-same-length
 same-length c = search needs

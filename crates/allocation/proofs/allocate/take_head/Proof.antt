@@ -1,14 +1,14 @@
 -- The head is a record's address, that record's word a buffer's, and the chunk is the one at that place. Assumes nothing.
-use mathlib.Core.Path.{_≡_, refl, sym, ap, _∙_}
-use Prim.Native.Nat.{ℕ, _+_, _*_, _-_, _<_}
+use mathlib.Core.Path.{refl, sym, _∙_}
+use Prim.Native.Nat.{_-_, _<_}
 use native.Mathlib.Omega.{arith}
 use borrow.Author.Needs.{needs}
-use lib.ListN.{length, take, drop}
-use Rattle.allocation.specs.Allocate.{takenChunk, takenHead}
+use lib.ListN.{length}
+use Rattle.allocation.specs.Allocate.{takenHead}
 use Rattle.allocation.proofs.Takings.{spot-taken}
 use Rattle.area.proofs.Places.{place-found}
 use Rattle.opening.proofs.Sheets.{chunk-inside, chunk-small, record-inside, record-word, lent-long}
-use Rattle.words.specs.Word.{part}
+use Rattle.words.proofs.Parts.{part-lent}
 use Rattle.allocation.proofs.allocate.take_head.Statement.{statement}
 use Rattle.allocation.proofs.allocate.take_head.Tie as tie
 
@@ -74,16 +74,12 @@ unfolding takenHead
 returns-2 c = (rw (← c .before .before .before .before .before .before .before .find .ensures, c .before .before .before .before .before .head .given .1, ← c .before .before .before .read .ensures, ← c .before .before .find2 .ensures, c .enum-told2 .given .1), tt)
 
 returns-3 : tie.Need-returns-3
-unfolding takenHead part
+unfolding takenHead
 returns-3 c =
     let p = c .before .before .before .before .before in
-    let s = c .before .before .before .before .before .before .before .before .before .before .before .before .before .before .before in
-    let g = s .args .g in
-    let i = p .buffer .given .0 .0 in
-    let j = c .before .before .before .before .before .before .before .before .before .before .head .given .0 .0 in
-    let e : i * g .chunk + g .chunk - i * g .chunk ≡ g .chunk = omega arith in (
-      rw (← c .before .before .before .before .before .before .before .before .before .before .before .before .find .ensures, c .before .before .before .before .before .before .before .before .before .before .head .given .1, ← c .before .before .before .before .before .before .before .before .read .ensures, ← c .before .before .before .before .before .before .before .find2 .ensures, p .buffer .given .1)
-          (c .take-chunk .ensures .0 ∙ ap (λ (n : ℕ). takenChunk g (take n (drop (i * g .chunk) (s .args .heap .now))) j i) e),
+    let s = c .before .before .before .before .before .before .before .before .before .before .before .before .before .before .before in (
+      rw (← c .before .before .before .before .before .before .before .before .before .before .before .before .find .ensures, c .before .before .before .before .before .before .before .before .before .before .head .given .1, ← c .before .before .before .before .before .before .before .before .read .ensures, ← c .before .before .before .before .before .before .before .find2 .ensures, p .buffer .given .1, ← part-lent)
+          (c .take-chunk .ensures .0),
       spot-taken 48 (length (s .args .heap .now)) (length (s .args .records .now)) (s .args .grant) _ (c .take-chunk .result)
           record { ready = record { long = refl; opened = s .pre .0; buffer = found p; own = own (c .before .before .before .before .before .before .before .before .before .before) }; granted = s .pre .1 }
           (c .take-chunk .ensures .1),

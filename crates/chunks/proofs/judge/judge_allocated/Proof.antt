@@ -2,7 +2,7 @@
 use mathlib.Core.Path.{sym, _∙_}
 use borrow.Author.Tests.{eq-eqb, ne-eqb}
 use borrow.Author.Needs.{needs}
-use Rattle.tags.proofs.Laws.{decoded-within}
+use Rattle.tags.proofs.Tags.{decoded-within}
 use Rattle.chunks.specs.Judge.{allocatedVerdict}
 use Rattle.chunks.proofs.judge.judge_allocated.Statement.{statement}
 use Rattle.chunks.proofs.judge.judge_allocated.Tie as tie

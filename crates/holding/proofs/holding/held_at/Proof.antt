@@ -1,13 +1,13 @@
 -- The chunk is the one at the buffer's place. Assumes nothing.
-use mathlib.Core.Path.{_≡_, refl, sym, ap, _∙_, subst}
-use Prim.Native.Nat.{ℕ, _+_, _*_, _-_, _<_}
+use mathlib.Core.Path.{refl, sym, _∙_, subst}
+use Prim.Native.Nat.{ℕ, _-_, _<_}
 use native.Mathlib.Omega.{arith}
 use borrow.Author.Needs.{needs}
-use lib.ListN.{length, take, drop}
+use lib.ListN.{length}
 use Rattle.opening.proofs.Sheets.{chunk-inside, chunk-small, lent-long}
 use Rattle.area.proofs.Places.{place-found}
-use Rattle.holding.specs.Holding.{heldChunk, heldAt, HeldIf}
-use Rattle.words.specs.Word.{part}
+use Rattle.holding.specs.Holding.{heldAt, HeldIf}
+use Rattle.words.proofs.Parts.{part-lent}
 use Rattle.holding.proofs.holding.held_at.Statement.{statement}
 use Rattle.holding.proofs.holding.held_at.Tie as tie
 
@@ -50,15 +50,11 @@ unfolding heldAt
 returns c = (rw (← c .before .before .find .ensures, c .enum-told .given .1), tt)
 
 returns-2 : tie.Need-returns-2
-unfolding heldAt part
+unfolding heldAt
 returns-2 c =
     let p = c .before .before .before .before .before in
-    let s = p .before .before .before .before .before in
-    let g = s .args .g in
-    let i = p .p .given .0 .0 in
-    let e : i * g .chunk + g .chunk - i * g .chunk ≡ g .chunk = omega arith in (
-      rw (← p .before .before .find .ensures, p .p .given .1)
-          (c .held-chunk .ensures .0 ∙ ap (λ (n : ℕ). heldChunk g (take n (drop (i * g .chunk) (s .args .heap .now))) (s .args .records .now) (s .args .address) i) e),
+    let s = p .before .before .before .before .before in (
+      rw (← p .before .before .find .ensures, p .p .given .1, ← part-lent) (c .held-chunk .ensures .0),
       subst (λ (n : ℕ). HeldIf 48 n (length (s .args .records .now)) (c .held-chunk .result)) (sym (s .pre .heapLong)) (c .held-chunk .ensures .1),
     )
 

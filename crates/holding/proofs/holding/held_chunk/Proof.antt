@@ -49,7 +49,7 @@ returns c =
     let s = p .before .before .before .before .before .before in
     let g = s .args .g in
     let chunk = s .args .chunk .now in
-    let size : bufferSize chunk ≡ g .size = (let l = s .pre .1 .0 .law .chunks in let e = s .pre .0 in omega arith) in
+    let size : bufferSize chunk ≡ g .size = (let l = s .pre .1 .0 .law .sizes .chunks in let e = s .pre .0 in omega arith) in
     let ready : Ready 48 (g .count * g .chunk) (length (s .args .records .now)) g (s .args .i) (p .p .given .0 .0) = record { long = refl; opened = s .pre .1 .0; buffer = s .pre .1 .1; own = own p } in (
       rw (← p .before .before .before .read-tag .ensures, ← p .before .before .find .ensures, p .p .given .1, ← c .before .before .read .ensures, eq-eqb _ _ (c .before .if1 .taken), p .before .before .before .read-tag .ensures) (c .held-by .ensures),
       subst (HeldIf _ _ _) (sym (c .held-by .ensures)) (held-by-if _ _ _ g (s .args .i) (p .p .given .0 .0) ready chunk (patternOf (tagAt chunk)) size),

@@ -1,11 +1,10 @@
 -- The part is cut where the answer says. Assumes nothing.
-use mathlib.Core.Path.{_≡_, ap, subst}
-use Prim.Native.Nat.{ℕ, _+_, _-_}
+use mathlib.Core.Path.{subst}
+use Prim.Native.Nat.{_-_}
 use native.Mathlib.Omega.{arith}
 use borrow.Author.Needs.{needs}
-use lib.ListN.{take, drop}
 use Rattle.holding.specs.Show.{ShownIf}
-use Rattle.words.specs.Word.{part}
+use Rattle.words.proofs.Parts.{part-lent}
 use Rattle.holding.proofs.show.show.Statement.{statement}
 use Rattle.holding.proofs.show.show.Tie as tie
 
@@ -43,14 +42,7 @@ returns : tie.Need-returns
 returns c = rw (← c .before .before .before .find-client .ensures .0, c .before .enum-told .given .1)
 
 returns-2 : tie.Need-returns-2
-unfolding part
-returns-2 c =
-    let f = c .before .before in
-    let heap = f .before .before .before .before .before .before .args .heap .now in
-    let at = f .c .given .0 .0 in
-    let len = f .c .given .0 .1 .0 in
-    let e : at + len - at ≡ len = omega arith in
-    rw (← f .before .before .find-client .ensures .0, f .c .given .1) (ap (λ (n : ℕ). take n (drop at heap)) e)
+returns-2 c = let f = c .before .before in rw (← f .before .before .find-client .ensures .0, f .c .given .1) (part-lent _ (f .c .given .0 .0) (f .c .given .0 .1 .0))
 
 pub show-spec : {M : Type 1} → statement M
 show-spec =

@@ -10,7 +10,7 @@ use Rattle.image.proofs.inspect.find.Statement.{statement}
 use Rattle.image.proofs.inspect.find.Tie as tie
 
 own-record-requires : tie.Need-own-record-requires
-own-record-requires c κs = let p = c .before .pre in let few = p .0 .law .few in let all = p .0 .all in omega arith
+own-record-requires c κs = let p = c .before .pre in let few = p .0 .law .sizes .few in let all = p .0 .all in omega arith
 
 judge-buffer-requires : tie.Need-judge-buffer-requires
 judge-buffer-requires c κs =

@@ -3,10 +3,11 @@
 -- Assumes nothing.
 use mathlib.Core.Path.{_≡_, refl, sym, _∙_, ap, subst}
 use Prim.Native.Nat.{ℕ, zero, suc, _+_, _*_, _<_, _^_}
-use native.Mathlib.Nat.{add-zero, add-suc, zero-add, lt-suc-self}
+use native.Mathlib.Nat.{add-zero, zero-add, lt-suc-self}
+use native.Mathlib.Numerals.{add-one}
 use native.Mathlib.Omega.{arith}
 use mathlib.Core.Bool.{Bool}
-use mathlib.Core.List.{List, [], _∷_, map}
+use mathlib.Core.List.{List, [], _∷_, map, map-id}
 use lib.Dec.{lit<}
 use lib.ListN.{length}
 use lib.WfN.{Nat·lt-wfRel}
@@ -57,7 +58,7 @@ use Rattle.image.specs.Inspect.{Inspection, filled, foundBy, Begins}
 use Rattle.image.specs.declared.inspect.Finding.{Finding}
 use Rattle.image.specs.declared.inspect.Begun.{Begun}
 use Rattle.image.proofs.Findings.{filled-length}
-use Rattle.image.proofs.Lent.{says-both, laid, freed, map-same}
+use Rattle.image.proofs.Lent.{says-both, laid, freed}
 use Rattle.image.proofs.inspect.Finding as T
 use Rattle.image.proofs.inspect.Finding.Laws as T′
 use Rattle.image.proofs.inspect.Begun as B
@@ -145,10 +146,10 @@ module _ (r : Begun) (u : Val) (is : Is B.the-row r (u ∷ [])) where
   start-is = LL.owed B.the-type B′.the-laws r (u ∷ []) is .0
 
   pairs-is : Is Pairs (r .pairs) (vals-of w16 (r .pairs))
-  pairs-is = subst (λ (l : List ℕ). Is Pairs l (vals-of w16 (r .pairs))) (map-same (r .pairs)) (LL.owed B.the-type B′.the-laws r (u ∷ []) is .1 .0)
+  pairs-is = subst (λ (l : List ℕ). Is Pairs l (vals-of w16 (r .pairs))) (map-id (r .pairs)) (LL.owed B.the-type B′.the-laws r (u ∷ []) is .1 .0)
 
   marks-is : Is Marks (r .marks) (vals-of w8 (r .marks))
-  marks-is = subst (λ (l : List ℕ). Is Marks l (vals-of w8 (r .marks))) (map-same (r .marks)) (LL.owed B.the-type B′.the-laws r (u ∷ []) is .1 .1 .0)
+  marks-is = subst (λ (l : List ℕ). Is Marks l (vals-of w8 (r .marks))) (map-id (r .marks)) (LL.owed B.the-type B′.the-laws r (u ∷ []) is .1 .1 .0)
 
   count-is : r .start .count < 2 ^ 64
   count-is = LL.owed S.the-type S′.the-laws (r .start) _ start-is .1 .0 .1
@@ -160,9 +161,6 @@ module _ (r : Begun) (u : Val) (is : Is B.the-row r (u ∷ [])) where
 -- the place of an element that is there is a usize
 fits : (i n : ℕ) → i < n → n * 16 < 2 ^ 63 → i * 16 < 2 ^ 64
 fits i n l g = omega arith
-
-one-more : (i : ℕ) → i + 1 ≡ suc i
-one-more i = add-suc i zero ∙ ap suc (add-zero i)
 
 module _ {M : Type 1} (𝓤 : URA M) (H : Heap 𝓤) (A : Atoms 𝓤) (mem : Memory → SProp 𝓤) (run : Routine → Fun 𝓤) where
   -- the contracts that the proof cites
@@ -380,7 +378,7 @@ module _ {M : Type 1} (𝓤 : URA M) (H : Heap 𝓤) (A : Atoms 𝓤) (W : Given
           assigns ! (of-opd ! (load ! (from ! (stop !)) (look ! 10 refl))) (from ! (hop ! (look ! 14 refl) (stop !))) (store-raw ! 0 refl (LL.lawful T.the-type T′.the-laws 𝓤 H A W .typed (found i) _ is .0)) $
           move ! (1 ∷ []) $ drop ! $ owned ! T.the-row (Is T.the-row) (LL.makes T.the-type T′.the-plain 𝓤 H A) (found i) _ is $ move ! (1 ∷ 0 ∷ 2 ∷ []) $ elem-put ! T.the-row fullShare (filled found ys i) i (found i) (u ∷ []) b o here $
           assigns-last ! (bin ! (load ! (from ! (stop !)) (look ! 6 refl)) (lit ! tt) (record { fits = next-fits })) (from ! (stop !)) (store ! 6 refl (tt, record { fits = next-fits })) $
-          forget ! 7 refl $ forget ! 8 refl $ forget ! 9 refl $ forget ! 10 refl $ forget ! 11 refl $ forget ! 12 refl $ rewrite ! 6 (λ (j : ℕ). ‵ (fat fullShare word l₁₀ 0 (vint w64 j))) (one-more i) refl $
+          forget ! 7 refl $ forget ! 8 refl $ forget ! 9 refl $ forget ! 10 refl $ forget ! 11 refl $ forget ! 12 refl $ rewrite ! 6 (λ (j : ℕ). ‵ (fat fullShare word l₁₀ 0 (vint w64 j))) (add-one i) refl $
           keep ! (0 ∷ 2 ∷ 5 ∷ 1 ∷ 3 ∷ 4 ∷ 6 ∷ 7 ∷ 8 ∷ 9 ∷ 10 ∷ 11 ∷ 12 ∷ 13 ∷ 14 ∷ 15 ∷ 16 ∷ 17 ∷ 18 ∷ 19 ∷ 20 ∷ 21 ∷ 22 ∷ 23 ∷ 24 ∷ 25 ∷ 26 ∷ 27 ∷ 28 ∷ 29 ∷ 30 ∷ 31 ∷ 32 ∷ 33 ∷ 34 ∷ 35 ∷ 36 ∷ 37 ∷ 38 ∷ 39 ∷ 40 ∷ 41 ∷ 42 ∷ 43 ∷ 44 ∷ 45 ∷ 46 ∷ 47 ∷ 48 ∷ []) $ by ! k)))))
         where
           i-fits : i < 2 ^ 64

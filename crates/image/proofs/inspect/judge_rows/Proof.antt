@@ -5,10 +5,9 @@ use native.Mathlib.Omega.{arith}
 use borrow.Author.Needs.{needs}
 use lib.Seq.{sets}
 use lib.ListN.{length}
-use Rattle.image.proofs.Findings.{rows-none, rows-more}
 use Rattle.image.specs.Inspect.{rowsOf, numbersOf, foundBy}
 use Rattle.image.specs.declared.inspect.Finding.{Finding}
-use Rattle.words.proofs.Laws.{below}
+use Rattle.words.proofs.Parts.{below, flat-none, flat-more}
 use Rattle.image.proofs.inspect.judge_rows.Statement.{statement}
 use Rattle.image.proofs.inspect.judge_rows.Tie as tie
 
@@ -19,7 +18,7 @@ abbrev μ-loop : tie.MeasureT-loop
 μ-loop heap start pairs marks rows₀ n i₀ rows i = start .count - i
 
 loop-holds : tie.Need-loop-holds Inv-loop μ-loop
-loop-holds c = (omega arith, refl, rows-none _ _)
+loop-holds c = (omega arith, refl, flat-none 3 _ (λ i. refl) _)
 
 find-requires : tie.Need-find-requires Inv-loop μ-loop
 find-requires c κs = (c .before .before .before .before .before .pre .0, search needs)
@@ -28,7 +27,7 @@ put-row-requires : tie.Need-put-row-requires Inv-loop μ-loop
 put-row-requires c κs =
     let p = c .before .before .before .before .before .before .pre in
     let t = below 3 (c .before .before .loop-test .taken) in
-    let few = p .0 .law .few in
+    let few = p .0 .law .sizes .few in
     let all = p .0 .all in
     let e : c .find .result .index ≡ c .before .before .before .loop .i = ap (λ (f : Finding). f .index) (c .find .ensures) in
     subst (λ (k : ℕ). (k < 512) × (k * 3 + 3 ≤ length (c .before .before .before .loop .rows))) (sym e) (omega arith, omega arith)
@@ -42,7 +41,7 @@ loop-less c = search needs
 loop-again : tie.Need-loop-again Inv-loop μ-loop
 loop-again c =
     let l = c .before .before .before .before .before .before in
-    (search needs, search needs, rows-more _ _ _ _ _ (l .loop .inv .2) (c .before .before .put-row .ensures ∙ ap (λ (f : Finding). sets (l .loop .rows) (f .index * 3) (numbersOf f)) (c .before .before .before .find .ensures)))
+    (search needs, search needs, flat-more 3 _ (λ i. refl) _ _ (l .loop .inv .2) (c .before .before .put-row .ensures ∙ ap (λ (f : Finding). sets (l .loop .rows) (f .index * 3) (numbersOf f)) (c .before .before .before .find .ensures)))
 
 same-length : tie.Need-same-length Inv-loop μ-loop
 same-length c = search needs

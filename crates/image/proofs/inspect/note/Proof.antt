@@ -6,7 +6,7 @@ use Rattle.image.proofs.inspect.note.Statement.{statement}
 use Rattle.image.proofs.inspect.note.Tie as tie
 
 pair-requires : tie.Need-pair-requires
-pair-requires c κs = let o = c .before .before .pre in let l = o .law in (omega arith, (l .recordsFit, (l .few, (omega arith, refl))))
+pair-requires c κs = let o = c .before .before .pre in let l = o .law in (omega arith, (l .bases .recordsFit, (l .sizes .few, (omega arith, refl))))
 
 walk-from-requires : tie.Need-walk-from-requires
 walk-from-requires c κs = search needs

@@ -27,7 +27,7 @@ known : (c : tie.After-opened2) →
 known c = subst (LoggedIf _ _ _) (c .opened2 .given .1) (c .before .before .open-with-log .ensures .1) .0
 
 mul-if1 : tie.Need-mul-if1
-mul-if1 c = let o = known (c .before) in let f = o .law .few in omega arith
+mul-if1 c = let o = known (c .before) in let f = o .law .sizes .few in omega arith
 
 returns : tie.Need-returns
 unfolding surveyOf

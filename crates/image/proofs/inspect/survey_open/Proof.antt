@@ -31,7 +31,7 @@ returns c =
     let n = c .before .before .before .before .before .before .before .before .before .note in (
       c .before .before .judge-rows .ensures
           ∙ ap (λ (x : Start). sets (a .rows .now) 0 (rowsOf (foundBy (a .heap .now) x (n .result .pairs) (n .result .marks)) (x .count))) (n .ensures .0)
-          ∙ ap (sets (a .rows .now) 0) (table-is (a .g) (a .heap .now) (a .records .now) (n .result .pairs) (n .result .marks) (s .pre .0 .law .few) (n .ensures .1 .0) (n .ensures .1 .1)),
+          ∙ ap (sets (a .rows .now) 0) (table-is (a .g) (a .heap .now) (a .records .now) (n .result .pairs) (n .result .marks) (s .pre .0 .law .sizes .few) (n .ensures .1 .0) (n .ensures .1 .1)),
       n .ensures .0,
     )
 

@@ -25,7 +25,7 @@ known : (c : tie.After-opened2) →
 known c = subst (OpenedIf _ _) (c .opened2 .given .1) (c .before .before .«open» .ensures .1)
 
 mul-if1 : tie.Need-mul-if1
-mul-if1 c = let o = known (c .before) in let f = o .law .few in omega arith
+mul-if1 c = let o = known (c .before) in let f = o .law .sizes .few in omega arith
 
 returns : tie.Need-returns
 unfolding tabulateOf
@@ -43,7 +43,7 @@ same-length c = search needs
 
 returns-3 : tie.Need-returns-3
 unfolding tabulateOf
-returns-3 c = rw (← c .before .before .before .before .before .before .before .before .«open» .ensures .0, c .before .before .before .before .before .before .opened2 .given .1, le-leb _ _ (c .before .before .before .before .if1 .left)) (refl, (c .before .before .survey-open .ensures .0, known (c .before .before .before .before .before .before) .law .few))
+returns-3 c = rw (← c .before .before .before .before .before .before .before .before .«open» .ensures .0, c .before .before .before .before .before .before .opened2 .given .1, le-leb _ _ (c .before .before .before .before .if1 .left)) (refl, (c .before .before .survey-open .ensures .0, known (c .before .before .before .before .before .before) .law .sizes .few))
 
 pub tabulate-spec : {M : Type 1} → statement M
 tabulate-spec =

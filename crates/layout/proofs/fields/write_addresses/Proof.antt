@@ -1,6 +1,7 @@
 -- Three fields in a row. Assumes nothing.
+use mathlib.Core.Path.{refl}
 use borrow.Author.Needs.{needs}
-use Rattle.layout.proofs.Layouts.{addresses-run}
+use Rattle.layout.proofs.Layouts.{fields-run}
 use Rattle.layout.proofs.fields.write_addresses.Statement.{statement}
 use Rattle.layout.proofs.fields.write_addresses.Tie as tie
 
@@ -17,7 +18,7 @@ same-length : tie.Need-same-length
 same-length c = search needs
 
 returns : tie.Need-returns
-returns c = addresses-run (c .before .before .before .before .before .before .before .before .before .before .before .before .before .args .g) _ _ _ _ (c .before .before .before .before .before .before .before .before .before .before .write-long .ensures) (c .before .before .before .before .before .before .write-long2 .ensures) (c .before .before .write-long3 .ensures)
+returns c = fields-run _ 0 4 7 14 1 2 3 _ _ _ refl refl (c .before .before .before .before .before .before .before .before .before .before .write-long .ensures) (c .before .before .before .before .before .before .write-long2 .ensures) (c .before .before .write-long3 .ensures)
 
 pub write-addresses-spec : {M : Type 1} → statement M
 write-addresses-spec =

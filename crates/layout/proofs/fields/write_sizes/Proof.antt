@@ -1,6 +1,7 @@
 -- Three fields in a row. Assumes nothing.
+use mathlib.Core.Path.{refl}
 use borrow.Author.Needs.{needs}
-use Rattle.layout.proofs.Layouts.{sizes-run}
+use Rattle.layout.proofs.Layouts.{fields-run}
 use Rattle.layout.proofs.fields.write_sizes.Statement.{statement}
 use Rattle.layout.proofs.fields.write_sizes.Tie as tie
 
@@ -26,7 +27,7 @@ same-length : tie.Need-same-length
 same-length c = search needs
 
 returns : tie.Need-returns
-returns c = sizes-run (c .before .before .before .before .before .before .before .before .before .before .before .before .before .before .before .before .args .g) _ _ _ _ (c .before .before .before .before .before .before .before .before .before .before .before .before .write-short .ensures) (c .before .before .before .before .before .before .before .write-short2 .ensures) (c .before .before .write-short3 .ensures)
+returns c = fields-run _ 21 2 26 31 4 5 6 _ _ _ refl refl (c .before .before .before .before .before .before .before .before .before .before .before .before .write-short .ensures) (c .before .before .before .before .before .before .before .write-short2 .ensures) (c .before .before .write-short3 .ensures)
 
 pub write-sizes-spec : {M : Type 1} → statement M
 write-sizes-spec =

@@ -5,8 +5,10 @@ use native.Mathlib.Omega.{arith}
 use borrow.Author.Needs.{needs}
 use lib.Seq.{sets}
 use lib.ListN.{length}
-use Rattle.layout.specs.Layout.{flat, laidAreas}
-use Rattle.layout.proofs.Layouts.{flat-none, flat-more, flat-whole, laid-chunk, laid-long}
+use Rattle.words.specs.Word.{flat}
+use Rattle.layout.specs.Layout.{laidAreas}
+use Rattle.words.proofs.Parts.{flat-none, flat-more, flat-whole}
+use Rattle.layout.proofs.Layouts.{laid-chunk, laid-long}
 use Rattle.layout.proofs.places.write_heap.Statement.{statement}
 use Rattle.layout.proofs.places.write_heap.Tie as tie
 

@@ -34,7 +34,7 @@ cast-write-u32 : tie.Need-cast-write-u32
 cast-write-u32 c = let s = c .before .before .before .before .before .before .before .before in let k = chunk-small _ (s .pre .0) _ (s .pre .1 .0) in omega arith
 
 add-write-u32-3 : tie.Need-add-write-u32-3
-add-write-u32-3 c = let s = c .before .before .before .before .before .before .before .before .before in let k = buffer-word _ (s .pre .0) _ (s .pre .1 .0) in omega (arith, s .pre .0 .chunks)
+add-write-u32-3 c = let s = c .before .before .before .before .before .before .before .before .before in let k = buffer-word _ (s .pre .0) _ (s .pre .1 .0) in omega (arith, s .pre .0 .sizes .chunks)
 
 write-u32-requires-2 : tie.Need-write-u32-requires-2
 write-u32-requires-2 c κs = search needs

@@ -6,8 +6,10 @@ use borrow.Author.Needs.{needs}
 use lib.Seq.{sets}
 use lib.ListN.{length}
 use Rattle.area.specs.Record.{recordSize}
-use Rattle.layout.specs.Layout.{flat, laidAreas, recordBytes}
-use Rattle.layout.proofs.Layouts.{flat-none, flat-more, flat-whole, length-recordBytes}
+use Rattle.words.specs.Word.{flat}
+use Rattle.layout.specs.Layout.{laidAreas, recordBytes}
+use Rattle.words.proofs.Parts.{flat-none, flat-more, flat-whole}
+use Rattle.layout.proofs.Layouts.{length-recordBytes}
 use Rattle.layout.proofs.places.write_records.Statement.{statement}
 use Rattle.layout.proofs.places.write_records.Tie as tie
 

@@ -2,7 +2,7 @@
 use native.Mathlib.Omega.{arith}
 use borrow.Author.Needs.{needs}
 use Rattle.lines.specs.Text.{chainLineOf}
-use Rattle.lines.proofs.Laws.{then}
+use Rattle.lines.proofs.Texts.{then}
 use Rattle.lines.proofs.text.put_chain.Statement.{statement}
 use Rattle.lines.proofs.text.put_chain.Tie as tie
 

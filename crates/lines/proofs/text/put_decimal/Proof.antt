@@ -6,7 +6,7 @@ use native.Mathlib.Omega.{arith}
 use borrow.Author.Needs.{needs}
 use lib.ListN.{length, take}
 use Rattle.lines.specs.Text.{Wrote, decimalOf}
-use Rattle.lines.proofs.Laws.{decimal-is, digits-few}
+use Rattle.lines.proofs.Texts.{decimal-is, digits-few}
 use Rattle.lines.proofs.text.put_decimal.Statement.{statement}
 use Rattle.lines.proofs.text.put_decimal.Tie as tie
 

@@ -3,7 +3,7 @@ use mathlib.Core.Path.{sym, _∙_}
 use native.Mathlib.Omega.{arith}
 use borrow.Author.Needs.{needs}
 use Rattle.lines.specs.Text.{faultLineOf}
-use Rattle.lines.proofs.Laws.{then}
+use Rattle.lines.proofs.Texts.{then}
 use Rattle.lines.proofs.text.put_fault.Statement.{statement}
 use Rattle.lines.proofs.text.put_fault.Tie as tie
 

@@ -5,8 +5,9 @@ use Prim.Native.Nat.{ℕ, _+_, _*_, _-_, _≤_}
 use native.Mathlib.Numerals.{add-one}
 use native.Mathlib.Omega.{arith}
 use borrow.Author.Needs.{needs}
-use Rattle.lines.specs.Text.{linesOf, faultOf, faultsIn, textOf, rowNumber, rowValue, Wrote}
-use Rattle.lines.proofs.Laws.{then, wrote-none, wrote-length, lines-none, lines-more, faults-none, faults-more, text-is}
+use Rattle.lines.specs.Text.{lineOf, linesOf, faultOf, faultsIn, textOf, rowNumber, rowValue, Wrote}
+use Rattle.words.proofs.Parts.{flat-nil, flat-suc}
+use Rattle.lines.proofs.Texts.{then, wrote-none, faults-none, faults-more, text-is}
 use Rattle.lines.proofs.text.put_report.Statement.{statement}
 use Rattle.lines.proofs.text.put_report.Tie as tie
 
@@ -28,7 +29,7 @@ loop-holds : tie.Need-loop-holds Inv-loop μ-loop
 loop-holds c =
     let h = c .before .before .put-header in
     let r = c .before .before .before .before .before .before .args .rows .now in
-    let none = sym (lines-none (rowNumber r) (rowValue r)) in (
+    let none = sym (flat-nil (λ (i : ℕ). lineOf i (rowNumber r i) (rowValue r i))) in (
       search needs,
       search needs,
       omega (arith, h .ensures .1),
@@ -86,7 +87,7 @@ loop-again c =
       omega (arith, f .1, e .1),
       omega (arith, w .1, e .2),
       rw (add-one, faults-more (rowNumber r)) (ap (λ (x : ℕ). l .faults + x) (f .0) ∙ ap (λ (x : ℕ). x + faultOf (rowNumber r (l .i))) (e .3)),
-      rw (add-one, lines-more (rowNumber r) (rowValue r)) (then (e .4) (w .0)),
+      rw (add-one, flat-suc) (then (e .4) (w .0)),
     )
 
 put-chain-requires : tie.Need-put-chain-requires Inv-loop μ-loop
@@ -113,7 +114,7 @@ whole c =
     (then (then (then (h .ensures .0) (l .inv .4)) (k .ensures .0)) (w .ensures .0))
 
 same-length : tie.Need-same-length Inv-loop μ-loop
-same-length c = wrote-length (whole c)
+same-length c = whole c .long
 
 returns : tie.Need-returns Inv-loop μ-loop
 returns c =

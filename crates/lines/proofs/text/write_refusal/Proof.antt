@@ -1,7 +1,7 @@
 -- The first run changes nothing and counts the line, so that the second has room for all of it. Assumes nothing.
 use native.Mathlib.Omega.{arith}
 use borrow.Author.Needs.{needs}
-use Rattle.lines.proofs.Laws.{too-short, long-enough}
+use Rattle.lines.proofs.Texts.{too-short, long-enough}
 use Rattle.lines.specs.Text.{refusalLineOf}
 use Rattle.lines.proofs.text.write_refusal.Statement.{statement}
 use Rattle.lines.proofs.text.write_refusal.Tie as tie

@@ -2,7 +2,7 @@
 use native.Mathlib.Omega.{arith}
 use borrow.Author.Needs.{needs}
 use Rattle.lines.specs.Text.{textOf, rowNumber, rowValue}
-use Rattle.lines.proofs.Laws.{too-short, long-enough}
+use Rattle.lines.proofs.Texts.{too-short, long-enough}
 use Rattle.lines.proofs.text.write_report.Statement.{statement}
 use Rattle.lines.proofs.text.write_report.Tie as tie
 

@@ -20,7 +20,7 @@ returns : tie.Need-returns
 unfolding areasOf
 returns c =
     let l = lawful-known _ (sym (c .before .before .before .is-lawful .ensures) ∙ c .before .before .if1 .taken) in
-    (rw (← c .before .before .before .is-lawful .ensures, c .before .before .if1 .taken), (l .area, omega arith))
+    (rw (← c .before .before .before .is-lawful .ensures, c .before .before .if1 .taken), (l .sizes .area, omega arith))
 
 returns-2 : tie.Need-returns-2
 unfolding areasOf

@@ -1,8 +1,8 @@
 -- Each test is one of the rule's, in its order. Assumes nothing.
+use native.Mathlib.Nat.{mul-le-mul}
 use native.Mathlib.Omega.{arith}
 use borrow.Author.Tests.{eq-eqb, ne-eqb, le-leb, lt-leb}
 use borrow.Author.Needs.{needs}
-use Rattle.opening.proofs.Sheets.{product-below}
 use Rattle.opening.specs.Sheet.{sizesLawful}
 use Rattle.opening.proofs.sheet.sizes_lawful.Statement.{statement}
 use Rattle.opening.proofs.sheet.sizes_lawful.Tie as tie
@@ -35,7 +35,7 @@ unfolding sizesLawful
 returns-6 c = rw (eq-eqb _ _ (c .before .before .before .before .before .if1 .left), le-leb _ _ (c .before .before .before .before .if2 .left), le-leb _ _ (c .before .before .before .if3 .left), eq-eqb _ _ (c .before .before .if4 .left), le-leb _ _ (c .before .if5 .left), lt-leb _ _ (c .if6 .taken))
 
 mul-if7 : tie.Need-mul-if7
-mul-if7 c = let a = c .before .before .before .before .before .before .args in omega (arith, product-below (a .count) (a .chunk) 512 4112 (omega arith) (omega arith))
+mul-if7 c = let a = c .before .before .before .before .before .before .args in omega (arith, mul-le-mul {n₁ = a .count} {m₁ = a .chunk} {n₂ = 512} {m₂ = 4112} (omega arith) (omega arith))
 
 returns-7 : tie.Need-returns-7
 unfolding sizesLawful

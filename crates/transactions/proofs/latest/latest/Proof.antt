@@ -1,11 +1,11 @@
 -- The part is cut where the answer says, from the log or from the records. Assumes nothing.
-use mathlib.Core.Path.{_≡_, ap, subst}
-use Prim.Native.Nat.{ℕ, _+_, _-_, _*_, _≤_}
+use mathlib.Core.Path.{subst}
+use Prim.Native.Nat.{_+_, _-_, _*_, _≤_}
 use native.Mathlib.Omega.{arith}
 use borrow.Author.Needs.{needs}
-use lib.ListN.{length, take, drop}
+use lib.ListN.{length}
 use Rattle.transactions.specs.Latest.{LatestIf}
-use Rattle.words.specs.Word.{part}
+use Rattle.words.proofs.Parts.{part-lent}
 use Rattle.transactions.proofs.latest.latest.Statement.{statement}
 use Rattle.transactions.proofs.latest.latest.Tie as tie
 
@@ -71,20 +71,10 @@ returns : tie.Need-returns
 returns c = rw (← c .before .before .before .find-latest .ensures .0, c .before .enum-told .given .1)
 
 returns-2 : tie.Need-returns-2
-unfolding part
-returns-2 c =
-    let f = c .before .before in
-    let log = f .before .before .before .before .before .before .before .args .log .now in
-    let e : f .found .given .0 .0 * 16 + 16 - f .found .given .0 .0 * 16 ≡ 16 = omega arith in
-    rw (← f .before .before .find-latest .ensures .0, f .found .given .1) (ap (λ (n : ℕ). take n (drop (f .found .given .0 .0 * 16) log)) e)
+returns-2 c = let f = c .before .before in rw (← f .before .before .find-latest .ensures .0, f .found .given .1) (part-lent _ (f .found .given .0 .0 * 16) 16)
 
 returns-3 : tie.Need-returns-3
-unfolding part
-returns-3 c =
-    let f = c .before .before in
-    let records = f .before .before .before .before .before .before .before .args .records .now in
-    let e : f .found2 .given .0 .0 * 96 + 96 - f .found2 .given .0 .0 * 96 ≡ 96 = omega arith in
-    rw (← f .before .before .find-latest .ensures .0, f .found2 .given .1) (ap (λ (n : ℕ). take n (drop (f .found2 .given .0 .0 * 96) records)) e)
+returns-3 c = let f = c .before .before in rw (← f .before .before .find-latest .ensures .0, f .found2 .given .1) (part-lent _ (f .found2 .given .0 .0 * 96) 96)
 
 pub latest-spec : {M : Type 1} → statement M
 latest-spec =

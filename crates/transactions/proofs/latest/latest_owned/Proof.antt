@@ -55,7 +55,7 @@ returns-3 c =
     let s = c .before .before .before .before .before .before .before .before .before in
     let h = record-inside (s .args .g) (s .pre .0 .law) (s .args .j) (s .pre .1 .0) in
     let e = s .pre .0 .recordsLong in
-    let f = s .pre .0 .law .few in
+    let f = s .pre .0 .law .sizes .few in
     (rw (← c .before .before .before .before .before .before .read .ensures, eq-eqb _ _ (c .before .before .before .before .before .if1 .left), ← c .before .before .before .read2 .ensures, ← c .before .before .latest-row .ensures, c .enum-told .given .1), omega arith)
 
 pub latest-owned-spec : {M : Type 1} → statement M

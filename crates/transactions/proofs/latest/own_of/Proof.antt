@@ -8,7 +8,7 @@ use Rattle.transactions.proofs.latest.own_of.Statement.{statement}
 use Rattle.transactions.proofs.latest.own_of.Tie as tie
 
 pair-requires : tie.Need-pair-requires
-pair-requires c κs = let o = c .before .before .pre .0 in let l = o .law in (omega arith, (l .recordsFit, (l .few, (omega arith, refl))))
+pair-requires c κs = let o = c .before .before .pre .0 in let l = o .law in (omega arith, (l .bases .recordsFit, (l .sizes .few, (omega arith, refl))))
 
 own-record-requires : tie.Need-own-record-requires
 own-record-requires c κs = search needs

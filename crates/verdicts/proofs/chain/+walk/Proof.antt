@@ -16,7 +16,8 @@ use Rattle.area.specs.declared.place.Place.the-variants.{At, Nowhere}
 use Rattle.verdicts.specs.declared.chain.Ending.the-variants.{End, Broken, Again}
 use Rattle.area.proofs.Places.{place-found}
 use Rattle.area.proofs.Records.{record-at}
-use Rattle.verdicts.proofs.Chains.{chain-end, chain-broken, chain-again, chain-meets, is-met, not-met, marks-set, unmet-set, ending-end, ending-place, gives-stop, gives-meets}
+use Rattle.verdicts.proofs.Marks.{is-met, not-met, marks-set, unmet-set}
+use Rattle.verdicts.proofs.Chains.{chain-end, chain-broken, chain-again, chain-meets, ending-end, ending-place, gives-stop, gives-meets}
 use Rattle.verdicts.proofs.chain.+walk.{statement}
 use Rattle.verdicts.proofs.chain.+walk.Tie.{close}
 use Rattle.verdicts.proofs.chain.walk.Reads as walk

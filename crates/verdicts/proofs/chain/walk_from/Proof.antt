@@ -8,7 +8,8 @@ use lib.ListN.{length}
 use Rattle.verdicts.specs.Chain.{chainOf}
 use Rattle.verdicts.specs.Walk.{marksOf, endingAt, wordValues}
 use Rattle.area.specs.declared.place.Place.the-variants.{At, Nowhere}
-use Rattle.verdicts.proofs.Chains.{length-marks, unmet-most, marks-none, ending-end, ending-place, gives-all}
+use Rattle.verdicts.proofs.Marks.{length-marks, unmet-most, marks-none}
+use Rattle.verdicts.proofs.Chains.{ending-end, ending-place, gives-all}
 use Rattle.verdicts.proofs.chain.walk_from.Statement.{statement}
 use Rattle.verdicts.proofs.chain.walk_from.Tie as tie
 

@@ -1,13 +1,11 @@
 -- The chunk and the record's address are those of the places; the rules from 21 on do the rest. Assumes nothing.
-use mathlib.Core.Path.{ap, _∙_, _≡_, subst}
+use mathlib.Core.Path.{subst}
 use Prim.Native.Nat.{_-_, ℕ, _+_, _*_, _≤_, _<_}
 use native.Mathlib.Omega.{arith}
 use borrow.Author.Needs.{needs}
-use lib.ListN.{take, drop}
 use Rattle.verdicts.specs.Pairing.{OwnIf}
-use Rattle.verdicts.specs.Judge.{ownedVerdict, marked, judged}
-use Rattle.opening.specs.Areas.{recordAddress}
-use Rattle.words.specs.Word.{part}
+use Rattle.verdicts.specs.Judge.{judged}
+use Rattle.words.proofs.Parts.{part-lent}
 use Rattle.chunks.specs.Chunk.{ChunkLength}
 use Rattle.opening.specs.Sheet.{heapLength}
 use Rattle.opening.specs.declared.sheet.Sheet.{Sheet}
@@ -85,15 +83,10 @@ unfolding judged
 returns c = rw (c .enum-told .given .1)
 
 returns-2 : tie.Need-returns-2
-unfolding judged part
+unfolding judged
 returns-2 c =
     let o = c .before .before .before .before .before .before .before .before in
-    let a = o .before .before .before .args in
-    let j = o .own .given .0 .0 in
-    let e : a .i * a .g .chunk + a .g .chunk - a .i * a .g .chunk ≡ a .g .chunk = omega arith in
-    rw (o .own .given .1, ← c .before .again-at .ensures)
-    (c .judge-owned .ensures
-    ∙ ap (λ (n : ℕ). ownedVerdict (take n (drop (a .i * a .g .chunk) (a .heap .now))) (recordAddress (a .g) j) (marked (a .marks .now) j) (c .before .again-at .result)) e)
+    rw (o .own .given .1, ← c .before .again-at .ensures, ← part-lent) (c .judge-owned .ensures)
 
 pub judge-buffer-spec : {M : Type 1} → statement M
 judge-buffer-spec =

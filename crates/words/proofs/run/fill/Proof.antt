@@ -5,7 +5,7 @@ use native.Mathlib.Omega.{arith}
 use borrow.Author.Needs.{needs}
 use lib.Seq.{sets}
 use lib.ListN.{length}
-use Rattle.words.proofs.Laws.{fill-more}
+use Rattle.words.proofs.Runs.{fill-more}
 use Rattle.words.specs.Run.{repeated}
 use Rattle.words.proofs.run.fill.Statement.{statement}
 use Rattle.words.proofs.run.fill.Tie as tie

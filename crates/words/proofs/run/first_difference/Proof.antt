@@ -6,7 +6,7 @@ use native.Mathlib.Omega.{arith}
 use borrow.Author.Count.{below-more}
 use borrow.Author.Needs.{needs}
 use lib.ListN.{getD}
-use Rattle.words.proofs.Laws.{run-differs, run-same}
+use Rattle.words.proofs.Runs.{run-differs, run-same}
 use Rattle.words.specs.Word.{bytesOf}
 use Rattle.words.proofs.run.first_difference.Statement.{statement}
 use Rattle.words.proofs.run.first_difference.Tie as tie

@@ -2,7 +2,7 @@
 use mathlib.Core.Path.{_∙_}
 use native.Mathlib.Omega.{arith}
 use borrow.Author.Needs.{needs}
-use Rattle.words.proofs.Laws.{two-read}
+use Rattle.words.proofs.Numbers.{two-read}
 use Rattle.words.proofs.word.read_u16.Statement.{statement}
 use Rattle.words.proofs.word.read_u16.Tie as tie
 

@@ -2,7 +2,7 @@
 use mathlib.Core.Path.{_∙_}
 use native.Mathlib.Omega.{arith}
 use borrow.Author.Needs.{needs}
-use Rattle.words.proofs.Laws.{four-read}
+use Rattle.words.proofs.Numbers.{four-read}
 use Rattle.words.proofs.word.read_u32.Statement.{statement}
 use Rattle.words.proofs.word.read_u32.Tie as tie
 

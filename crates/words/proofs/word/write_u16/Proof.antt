@@ -2,7 +2,7 @@
 use native.Mathlib.Omega.{arith}
 use borrow.Author.Needs.{needs}
 use lib.ListN.{length-set}
-use Rattle.words.proofs.Laws.{two-stores}
+use Rattle.words.proofs.Numbers.{two-stores}
 use Rattle.words.proofs.word.write_u16.Statement.{statement}
 use Rattle.words.proofs.word.write_u16.Tie as tie
 

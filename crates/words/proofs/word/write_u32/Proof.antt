@@ -2,7 +2,7 @@
 use native.Mathlib.Omega.{arith}
 use borrow.Author.Needs.{needs}
 use lib.ListN.{length-set}
-use Rattle.words.proofs.Laws.{four-stores}
+use Rattle.words.proofs.Numbers.{four-stores}
 use Rattle.words.proofs.word.write_u32.Statement.{statement}
 use Rattle.words.proofs.word.write_u32.Tie as tie
 

@@ -4,9 +4,9 @@ use combgallop::Grant;
 use differential::samples::dump;
 use differential::{put_word, Image, Sequence};
 
+use super::answers;
 use super::call::Call;
 use super::twin::Twin;
-use super::{ALLOCATE, FREE, SHOW, STORE};
 use crate::counts::{Counts, Met};
 
 const SEED: u64 = 0x95c1_7b3e;
@@ -118,31 +118,22 @@ fn calls_on_neighbours_of_the_dump() {
         let lengths = [image.sheet.len(), image.heap.len(), image.records.len()];
         for (area, length) in lengths.into_iter().enumerate() {
             for at in 0..length {
-                let stood = *byte(&mut image, area, at);
+                let stood = *image.byte_mut(area, at);
                 for value in 0..=255 {
-                    *byte(&mut image, area, at) = value;
+                    *image.byte_mut(area, at) = value;
                     let origin = format!("dump, {grant:?}, area {area}, {value:#x} at {at}");
                     run_all(&image, &calls, &origin, &mut counts, &mut sequence);
                 }
-                *byte(&mut image, area, at) = stood;
+                *image.byte_mut(area, at) = stood;
             }
         }
     }
-    let all = [&ALLOCATE[..], &FREE, &STORE, &SHOW].concat();
+    let all = ["allocate", "free", "store", "show"].map(answers).concat();
     let wanted: Vec<Met> = all
         .into_iter()
         .filter(|met| !NOT_NEAR.contains(met))
         .collect();
     counts.finish("calls, neighbours of the dump", SEED, &wanted);
-}
-
-/// A byte of the sheet, the heap or the records, areas 0, 1 and 2.
-fn byte(image: &mut Image, area: usize, at: usize) -> &mut u8 {
-    match area {
-        0 => &mut image.sheet[at],
-        1 => &mut image.heap[at],
-        _ => &mut image.records[at],
-    }
 }
 
 /// Every grant asked for, and every grant given back for it.

@@ -3,9 +3,9 @@
 use differential::hurt::{HEAD_HURTS, HURTS};
 use differential::{Case, Sequence};
 
+use super::answers;
 use super::draw::{some_call, some_lay_out};
 use super::twin::Twin;
-use super::{ALLOCATE, FREE, LAY_OUT, SHOW, STORE};
 use crate::counts::{Counts, Met};
 
 const CASES: u64 = 40_000;
@@ -50,7 +50,8 @@ fn calls_on_hurt_images() {
     }
     let hurts = HURTS.iter().chain(&HEAD_HURTS);
     let hurts: Vec<Met> = hurts.map(|&(name, _)| Met::Hurt(name)).collect();
-    let answers = [&LAY_OUT[..], &ALLOCATE, &FREE, &STORE, &SHOW].concat();
+    let calls = ["lay out", "allocate", "free", "store", "show"];
+    let answers = calls.map(answers).concat();
     let wanted = [answers, hurts].concat();
     counts.finish("calls, hurt images", SEED, &wanted);
 }

@@ -2,10 +2,10 @@
 
 use differential::{some_shape, Image, Sequence, Shape};
 
+use super::answers;
 use super::call::{Call, Numbers};
 use super::draw::any_bytes;
 use super::twin::Twin;
-use super::LAY_OUT;
 use crate::counts::{Counts, Met, EXTREMES};
 
 const CASES: u64 = 30_000;
@@ -259,6 +259,6 @@ fn lay_outs_of_every_kind() {
         }
     }
     let changes: Vec<Met> = CHANGES.iter().map(|&(name, _)| Met::Drawn(name)).collect();
-    let wanted = [&LAY_OUT[..], &EXTREMES, &changes].concat();
+    let wanted = [&answers("lay out")[..], &EXTREMES, &changes].concat();
     counts.finish("calls, lay outs", SEED, &wanted);
 }

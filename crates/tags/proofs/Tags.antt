@@ -1,7 +1,6 @@
 -- The laws of tags and of size codes. Assumes nothing.
--- ---- the tag
 use mathlib.Core.Path.{_≡_, refl, ap, ap₂, _∙_}
-use mathlib.Core.Bool.{Bool, true, false, _&&_}
+use mathlib.Core.Bool.{Bool, true, false, _&&_, and-eq-true-iff}
 use Prim.Native.Nat.{ℕ, zero, suc, _+_, _-_, _*_, _/_, _%_, _≤_, _<_}
 use native.Mathlib.Nat.{mod-lt, div-add-mod', zero-lt-suc}
 use native.Mathlib.Omega.{arith}
@@ -15,6 +14,8 @@ use Rattle.tags.specs.SizeCode.{codeOf, decodedOf}
 use Rattle.tags.specs.declared.tag.State.{State}
 use Rattle.tags.specs.declared.size_code.Decoded.the-variants.{Size, Bad}
 use Rattle.tags.specs.declared.tag.State.the-variants as state
+
+-- ---- the tag
 
 digit : (x y : ℕ) → x < 2 → y < 2 → differ x (differ x y) ≡ y
 digit zero y hx hy = refl
@@ -65,10 +66,6 @@ decode-code s most h k =
     let r : (251 * s + 1) % 251 ≡ 1 = omega arith in
     rw (q, r, le-leb 1 s h, le-leb s most k)
 
-pub and-true : (a b : Bool) → a && b ≡ true → (a ≡ true) × (b ≡ true)
-and-true true b e = (refl, e)
-and-true false b e = absurd (let z : _≡_ {A = ℕ} 0 1 = cc in omega arith)
-
 -- a decoded size is one of the buffer's
 pub decoded-within : (code most s : ℕ) → decodedOf code most ≡ Size s → (1 ≤ s) × (s ≤ most)
 unfolding decodedOf
@@ -78,6 +75,6 @@ decoded-within code most s e = go (eqb (code % 251) 1 && (leb 1 (code / 251) && 
         → (1 ≤ s) × (s ≤ most)
     go true t f =
         let z : code / 251 ≡ s = cc in
-        let both = and-true (leb 1 (code / 251)) (leb (code / 251) most) (and-true (eqb (code % 251) 1) (leb 1 (code / 251) && leb (code / 251) most) t .1) in
+        let both = and-eq-true-iff (leb 1 (code / 251)) (leb (code / 251) most) .0 (and-eq-true-iff (eqb (code % 251) 1) (leb 1 (code / 251) && leb (code / 251) most) .0 t .1) in
         rw (← z) (leb-true 1 (code / 251) (both .0), leb-true (code / 251) most (both .1))
     go false t f = absurd (let z : _≡_ {A = ℕ} 0 1 = cc in omega arith)

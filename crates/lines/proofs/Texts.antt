@@ -1,50 +1,30 @@
--- The laws of the report's text: of runs of stores that may pass the output's end, of decimals, of the lines, and of all or nothing. Assumes nothing.
+-- The laws of the report's text: of pieces one after the other, of decimals, of the lines, and of all or nothing. Assumes nothing.
 use mathlib.Core.Path.{_≡_, refl, sym, ap, subst, _∙_}
 use mathlib.Core.List.{List, [], _∷_, _++_}
 use Prim.Native.Nat.{ℕ, zero, suc, _+_, _-_, _*_, _/_, _%_, _^_, _≤_, _<_}
 use native.Mathlib.Nat.{not-suc-le-zero, add-zero, zero-add, pow-suc, one-le-pow, pow-le-pow-right, lt-of-not-le}
 use native.Mathlib.Omega.{arith}
 use borrow.Author.Tests.{lt-ltb, le-ltb, le-leb, lt-leb}
-use lib.ListN.{length, getD, set, take, length-append}
-use lib.Seq.{sets, length-sets, set-out, take-suc, length-take-le}
+use lib.ListN.{length, length-append}
+use lib.Seq.{sets}
 use Rattle.io.specs.Digits.{glyph, digits, Fewest}
-use Rattle.words.proofs.Laws.{sets-append}
+use Rattle.words.proofs.Parts.{sets-next}
 use Rattle.verdicts.specs.declared.chain.Ending.{Ending}
-use Rattle.lines.specs.Text.{decimalWith, headerOf, lineOf, linesOf, chainLineOf, faultOf, faultsIn, faultsOf, textOf, Wrote, writtenOf, outputOf}
+use Rattle.lines.specs.Text.{decimalWith, headerOf, linesOf, chainLineOf, faultOf, faultsIn, faultsOf, textOf, Wrote, writtenOf, outputOf}
 use Rattle.lines.specs.declared.text.Written.the-variants.{Length, Short}
 
--- ---- runs of stores
-
--- one element more of a piece
-pub sets-more : (l : List ℕ) (i : ℕ) (p : List ℕ) (k : ℕ) → k < length p → set (sets l i (take k p)) (i + k) (getD p k 0) ≡ sets l i (take (suc k) p)
-sets-more l i p k h =
-    ap (λ (j : ℕ). set (sets l i (take k p)) (i + j) (getD p k 0)) (sym (length-take-le k p (omega arith)))
-    ∙ sets-append l i (take k p) (getD p k 0 ∷ [])
-    ∙ ap (sets l i) (sym (take-suc p k 0 h))
-
--- past the end nothing is stored
-pub sets-past : (l : List ℕ) (i : ℕ) (p : List ℕ) (k : ℕ) → k < length p → length l ≤ i + k → sets l i (take k p) ≡ sets l i (take (suc k) p)
-sets-past l i p k h out =
-    sym (set-out (sets l i (take k p)) (i + k) (getD p k 0) (subst (λ (n : ℕ). n ≤ i + k) (sym (length-sets l i (take k p))) out)) ∙ sets-more l i p k h
-
--- nor is a whole run
-pub sets-out : (l : List ℕ) (i : ℕ) (p : List ℕ) → length l ≤ i → l ≡ sets l i p
-sets-out l i [] h = refl
-sets-out l i (x ∷ p) h =
-    sets-out l (suc i) p (omega arith) ∙ ap (λ (y : List ℕ). sets y (suc i) p) (sym (set-out l i x h))
+-- ---- pieces
 
 -- one piece, and then another
 pub then : {l m o a b : List ℕ} {at p q : ℕ} → Wrote l at a m p → Wrote m p b o q → Wrote l at (a ++ b) o q
 then {l} {m} {o} {a} {b} {at} {p} {q} v w = record {
-  filled = w .filled ∙ ap (λ (x : List ℕ). sets x p b) (v .filled) ∙ ap (λ (k : ℕ). sets (sets l at a) k b) (v .ends) ∙ sets-append l at a b;
+  long = w .long ∙ v .long;
+  filled = λ h. sets-next l a b at (length a) p (v .filled (omega (arith, w .ends))) refl (sym (v .ends)) (w .filled (omega (arith, v .long)));
   ends = let h = length-append a b in let e = v .ends in let f = w .ends in omega arith;
 }
 
 pub wrote-none : (l : List ℕ) (at : ℕ) → Wrote l at [] l at
-wrote-none l at = record { filled = refl; ends = sym (add-zero at) }
-
-pub wrote-length : {l m a : List ℕ} {at p : ℕ} → Wrote l at a m p → length m ≡ length l
-wrote-length {l} {m} {a} {at} {p} w = ap length (w .filled) ∙ length-sets l at a
+wrote-none l at = record { long = refl; filled = λ h. refl; ends = sym (add-zero at) }
 
 -- ---- decimals
 
@@ -85,14 +65,6 @@ digits-few n r h f =
 -- ---- the lines
 
 module _ (number value : ℕ → ℕ) where
-  pub lines-none : linesOf number value 0 ≡ []
-  unfolding linesOf
-  lines-none = refl
-
-  pub lines-more : (i : ℕ) → linesOf number value (suc i) ≡ linesOf number value i ++ lineOf i (number i) (value i)
-  unfolding linesOf
-  lines-more i = refl
-
   -- the pieces, where all n lines are put and their faults counted
   pub text-is : (i n faults met : ℕ) (ending : Ending) → i ≡ n → faults ≡ faultsIn number i
       → headerOf ++ linesOf number value i ++ chainLineOf met ending ++ faultsOf faults ≡ textOf number value n met ending
@@ -113,7 +85,7 @@ module _ (number : ℕ → ℕ) where
 -- an empty output stays empty
 nothing-put : (m t o : List ℕ) (p : ℕ) → Wrote [] 0 t m p → m ++ o ≡ o
 nothing-put [] t o p w = refl
-nothing-put (x ∷ m) t o p w = let z : suc (length m) ≡ 0 = wrote-length w in absurd (omega arith)
+nothing-put (x ∷ m) t o p w = let z : suc (length m) ≡ 0 = w .long in absurd (omega arith)
 
 -- the two ends of a report, of which the first run only counted
 module _ (t o m : List ℕ) (need : ℕ) (w : Wrote [] 0 t m need) where
@@ -127,4 +99,4 @@ module _ (t o m : List ℕ) (need : ℕ) (w : Wrote [] 0 t m need) where
   long-enough h x r v =
       let k = nothing-put m t o need w in
       let l : length t ≤ length o = omega (arith, ap length k, w .ends) in
-      simp (le-leb (length t) (length o) l) (ap Length (v .ends ∙ zero-add (length t)), v .filled ∙ ap (λ (y : List ℕ). sets y 0 t) k)
+      simp (le-leb (length t) (length o) l) (ap Length (v .ends ∙ zero-add (length t)), v .filled (omega (arith, w .ends, v .ends)) ∙ ap (λ (y : List ℕ). sets y 0 t) k)

@@ -1,0 +1,34 @@
+-- The word is put, and the number behind it. Assumes nothing.
+use mathlib.Core.Path.{_≡_}
+use Prim.Native.Nat.{_+_}
+use native.Mathlib.Omega.{arith}
+use borrow.Author.Needs.{needs}
+use lib.ListN.{length}
+use Rattle.lines.proofs.Texts.{then}
+use Rattle.lines.proofs.text.put_labelled.Statement.{statement}
+use Rattle.lines.proofs.text.put_labelled.Tie as tie
+
+put-requires : tie.Need-put-requires
+put-requires c κs = search needs
+
+slice-aggregate-put-field : tie.Need-slice-aggregate-put-field
+slice-aggregate-put-field c = search needs
+
+put-field-requires : tie.Need-put-field-requires
+put-field-requires c κs = search needs
+
+same-length : tie.Need-same-length
+same-length c = search needs
+
+returns : tie.Need-returns
+returns c =
+    let s = c .before .before .before .before .before .before .before .before .before .before .before in
+    let v = c .before .before .before .before .before .before .before .put in
+    let w = c .before .before .put-field .ensures in
+    let e : v .result ≡ s .args .at + length (s .args .word .now) = v .ensures .ends in
+    (then (v .ensures) (w .0), omega (arith, w .1, s .pre .1))
+
+pub put-labelled-spec : {M : Type 1} → statement M
+put-labelled-spec =
+    tie.close
+    (tie.spec put-requires slice-aggregate-put-field put-field-requires same-length returns)

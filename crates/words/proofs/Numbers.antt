@@ -1,0 +1,94 @@
+-- The laws of numbers in bytes, each stated once over the width, and what single reads and stores of bytes come to. Assumes nothing.
+use mathlib.Core.Path.{_≡_, refl, sym, ap, _∙_}
+use mathlib.Core.Logic.{_⊎_}
+use mathlib.Core.List.{List, [], _∷_}
+use Prim.Native.Nat.{ℕ, zero, suc, _+_, _/_, _%_, _^_, _≤_, _<_}
+use native.Mathlib.Nat.{pow-succ', one-le-pow, mod-eq-of-lt, div-one}
+use native.Mathlib.Numerals.{add-one}
+use native.Mathlib.Omega.{arith}
+use lib.Arith.{mod-mul}
+use lib.Dec.{lit<}
+use lib.ListN.{length, getD, set}
+use lib.Seq.{sets}
+use Rattle.words.specs.Word.{number, bytesOf, numberAt}
+use Rattle.words.proofs.Parts.{part-none, part-cons, part-written, part-outside}
+
+-- ---- numbers in bytes
+
+pub length-bytesOf : (k v : ℕ) → length (bytesOf k v) ≡ k
+unfolding bytesOf
+length-bytesOf zero v = refl
+length-bytesOf (suc k) v = ap suc (length-bytesOf k v)
+
+-- the number of a number's bytes
+pub number-bytesOf : (k v : ℕ) → number (bytesOf k v) ≡ v % 256 ^ k
+unfolding number bytesOf
+number-bytesOf zero v = omega arith
+number-bytesOf (suc k) v =
+    rw (length-bytesOf k v, number-bytesOf k v, pow-succ' 256 k) (sym (mod-mul v (lit< tt) (one-le-pow k 256 (lit< tt))))
+
+-- a number that k bytes hold is read back from them
+pub number-back : (k v : ℕ) → v < 256 ^ k → number (bytesOf k v) ≡ v
+number-back k v h = number-bytesOf k v ∙ mod-eq-of-lt h
+
+-- a number is read back from where it was written
+pub numberAt-written : (k : ℕ) (l : List ℕ) (at v : ℕ) → at + k ≤ length l → v < 256 ^ k → numberAt k (sets l at (bytesOf k v)) at ≡ v
+unfolding numberAt
+numberAt-written k l at v h small = ap number (part-written l (bytesOf k v) at k (length-bytesOf k v) h) ∙ number-back k v small
+
+-- a read outside a written run
+pub numberAt-outside : (k : ℕ) (vs l : List ℕ) (i at : ℕ) → (at + k ≤ i) ⊎ (i + length vs ≤ at) → numberAt k (sets l i vs) at ≡ numberAt k l at
+unfolding numberAt
+numberAt-outside k vs l i at h = ap number (part-outside vs l i at k h)
+
+-- ---- what single reads and stores of bytes come to
+
+pub one-read : (l : List ℕ) (at : ℕ) → at + 1 ≤ length l → getD l at 0 ≡ numberAt 1 l at
+unfolding numberAt number
+one-read l at h = rw (part-cons l at 0 (omega arith), part-none l (at + 1)) (omega arith)
+
+pub two-read : (l : List ℕ) (at : ℕ) → at + 2 ≤ length l → number (getD l at 0 ∷ getD l (at + 1) 0 ∷ []) ≡ numberAt 2 l at
+unfolding numberAt
+two-read l at h = rw (part-cons l at 1 (omega arith), part-cons l (at + 1) 0 (omega arith), part-none l (at + 1 + 1))
+
+pub four-read : (l : List ℕ) (at : ℕ) → at + 4 ≤ length l
+    → number (getD l at 0 ∷ getD l (at + 1) 0 ∷ getD l (at + 2) 0 ∷ getD l (at + 3) 0 ∷ []) ≡ numberAt 4 l at
+unfolding numberAt
+four-read l at h =
+    let e : at + 1 + 1 ≡ at + 2 = omega arith in
+    let f : at + 2 + 1 ≡ at + 3 = omega arith in
+    rw (
+      part-cons l at 3 (omega arith),
+      part-cons l (at + 1) 2 (omega arith),
+      e,
+      part-cons l (at + 2) 1 (omega arith),
+      f,
+      part-cons l (at + 3) 0 (omega arith),
+      part-none l (at + 3 + 1),
+    )
+
+pub two-bytes : (v a b : ℕ) → a ≡ v / 256 % 256 → b ≡ v % 256 → a ∷ b ∷ [] ≡ bytesOf 2 v
+unfolding bytesOf
+two-bytes v a b ea eb = rw (ea, eb, div-one)
+
+pub four-bytes : (v a b c d : ℕ) → a ≡ v / 16777216 % 256 → b ≡ v / 65536 % 256 → c ≡ v / 256 % 256 → d ≡ v % 256
+    → a ∷ b ∷ c ∷ d ∷ [] ≡ bytesOf 4 v
+unfolding bytesOf
+four-bytes v a b c d ea eb ec ed = rw (ea, eb, ec, ed, div-one)
+
+pub one-store : (l : List ℕ) (at v : ℕ) → v < 256 → set l at v ≡ sets l at (bytesOf 1 v)
+unfolding bytesOf
+one-store l at v h = let e : v / 1 % 256 ≡ v = omega arith in rw e
+
+pub two-stores : (l b : List ℕ) (at v : ℕ) → b ≡ bytesOf 2 v → set (set l at (getD b 0 0)) (at + 1) (getD b 1 0) ≡ sets l at (bytesOf 2 v)
+unfolding bytesOf
+two-stores l b at v e = rw (e, add-one)
+
+pub four-stores : (l b : List ℕ) (at v : ℕ) → b ≡ bytesOf 4 v
+    → set (set (set (set l at (getD b 0 0)) (at + 1) (getD b 1 0)) (at + 2) (getD b 2 0)) (at + 3) (getD b 3 0) ≡ sets l at (bytesOf 4 v)
+unfolding bytesOf
+four-stores l b at v e =
+    let f : at + 1 ≡ suc at = omega arith in
+    let g : at + 2 ≡ suc (suc at) = omega arith in
+    let h : at + 3 ≡ suc (suc (suc at)) = omega arith in
+    rw (e, f, g, h)

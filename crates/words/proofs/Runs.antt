@@ -1,0 +1,135 @@
+-- The laws of a word again and again, of the first place at which two lists differ, and of runs that are filled or compared from the front. Assumes nothing.
+use mathlib.Core.Path.{_≡_, refl, sym, ap, _∙_}
+use mathlib.Core.Bool.{Bool, true, false}
+use mathlib.Core.List.{List, [], _∷_, _++_, append-assoc}
+use Prim.Native.Nat.{ℕ, zero, suc, _+_, _%_, _≤_, _<_}
+use native.Mathlib.Nat.{add-zero, zero-add}
+use native.Mathlib.Decide.{ℕ-discrete}
+use native.Mathlib.Omega.{arith}
+use borrow.Author.Tests.{eq-eqb, ne-eqb}
+use lib.Dec.{eqb}
+use lib.ListN.{length, getD, length-append, List·getD-append}
+use lib.Seq.{sets, ext-getD, getD-at}
+use Rattle.words.specs.Word.{part, bytesOf}
+use Rattle.words.specs.Run.{pick, repeated, differenceFrom, difference}
+use Rattle.words.specs.declared.run.Difference.{Difference}
+use Rattle.words.specs.declared.run.Difference.the-variants.{At, Nowhere}
+use Rattle.words.proofs.Parts.{length-part, getD-part, sets-then}
+
+-- ---- a word again and again
+
+pub length-repeated : (n w : ℕ) → length (repeated n w) ≡ n
+unfolding repeated
+length-repeated zero w = refl
+length-repeated (suc n) w = simp (length-append, length-repeated n w) (omega arith)
+
+pub getD-repeated : (n w i : ℕ) → i < n → getD (repeated n w) i 0 ≡ getD (bytesOf 4 w) (i % 4) 0
+unfolding repeated
+getD-repeated zero w i h = absurd (omega arith)
+getD-repeated (suc n) w i h = go (ℕ-discrete i n) (getD-repeated n w i)
+  where
+    go : Dec (i ≡ n) → (i < n → getD (repeated n w) i 0 ≡ getD (bytesOf 4 w) (i % 4) 0)
+        → getD (repeated n w ++ (getD (bytesOf 4 w) (n % 4) 0 ∷ [])) i 0 ≡ getD (bytesOf 4 w) (i % 4) 0
+    go (yes e) ih = rw e (getD-at (repeated n w) (getD (bytesOf 4 w) (n % 4) 0) [] 0 n (length-repeated n w))
+    go (no ne) ih =
+        let g : i < n = omega arith in
+        List·getD-append (repeated n w) (getD (bytesOf 4 w) (n % 4) 0 ∷ []) 0 i (omega (arith, length-repeated n w)) ∙ ih g
+
+-- its first bytes
+pub part-repeated : (n k w : ℕ) → k ≤ n → part (repeated n w) 0 k ≡ repeated k w
+part-repeated n k w h =
+    let e : length (part (repeated n w) 0 k) ≡ k = length-part (repeated n w) 0 k (omega (arith, length-repeated n w)) in
+    ext-getD 0 (part (repeated n w) 0 k) (repeated k w)
+    (e ∙ sym (length-repeated k w))
+    (λ i l.
+    let q : i < k = omega arith in
+    getD-part (repeated n w) 0 k i q
+    ∙ ap (λ (x : ℕ). getD (repeated n w) x 0) (zero-add i)
+    ∙ getD-repeated n w i (omega arith)
+    ∙ sym (getD-repeated k w i q))
+
+-- one word more
+pub repeated-more : (n w : ℕ) → n % 4 ≡ 0 → repeated (n + 4) w ≡ repeated n w ++ bytesOf 4 w
+unfolding repeated bytesOf
+repeated-more n w h =
+    let e : n + 4 ≡ suc (suc (suc (suc n))) = omega arith in
+    let a : suc n % 4 ≡ 1 = omega arith in
+    let b : suc (suc n) % 4 ≡ 2 = omega arith in
+    let c : suc (suc (suc n)) % 4 ≡ 3 = omega arith in
+    rw (e, h, a, b, c) (simp append-assoc)
+
+-- a word once
+pub repeated-once : (w : ℕ) → repeated 4 w ≡ bytesOf 4 w
+unfolding repeated
+repeated-once w = repeated-more 0 w refl
+
+-- ---- the first place at which two lists differ
+
+pub differs-nowhere : (k : ℕ) (xs ys : List ℕ) → length xs ≡ length ys → ((i : ℕ) → i < length xs → getD xs i 0 ≡ getD ys i 0)
+    → differenceFrom k xs ys ≡ Nowhere
+unfolding differenceFrom
+differs-nowhere k [] ys e h = refl
+differs-nowhere k (x ∷ xs) [] e h = absurd (omega arith)
+differs-nowhere k (x ∷ xs) (y ∷ ys) e h =
+    rw (eq-eqb x y (h 0 (omega arith))) (differs-nowhere (suc k) xs ys (omega arith) (λ i g. h (suc i) (omega arith)))
+
+pub differs-at : (k : ℕ) (xs ys : List ℕ) (i : ℕ) → i < length xs → i < length ys → ((j : ℕ) → j < i → getD xs j 0 ≡ getD ys j 0)
+    → (getD xs i 0 ≡ getD ys i 0 → ⊥) → differenceFrom k xs ys ≡ At (k + i)
+unfolding differenceFrom
+differs-at k [] ys i hx hy h ne = absurd (omega arith)
+differs-at k (x ∷ xs) [] i hx hy h ne = absurd (omega arith)
+differs-at k (x ∷ xs) (y ∷ ys) zero hx hy h ne = rw (ne-eqb x y ne, add-zero)
+differs-at k (x ∷ xs) (y ∷ ys) (suc i) hx hy h ne =
+    let e : k + suc i ≡ suc k + i = omega arith in
+    rw (eq-eqb x y (h 0 (omega arith)), e) (differs-at (suc k) xs ys i (omega arith) (omega arith) (λ j g. h (suc j) (omega arith)) ne)
+
+-- a place at which two lists differ is a place of the first
+within : (k : ℕ) (xs ys : List ℕ) (o : ℕ) → differenceFrom k xs ys ≡ At o → o < k + length xs
+unfolding differenceFrom
+within k [] ys o e = absurd (let z : _≡_ {A = ℕ} 0 1 = cc in omega arith)
+within k (x ∷ xs) [] o e = let z : k ≡ o = cc in omega arith
+within k (x ∷ xs) (y ∷ ys) o e = go (eqb x y) (within (suc k) xs ys o) e
+  where
+    go : (b : Bool) → (differenceFrom (suc k) xs ys ≡ At o → o < suc k + length xs) → pick b (differenceFrom (suc k) xs ys) (At k) ≡ At o
+        → o < k + suc (length xs)
+    go true ih f = omega (arith, ih f)
+    go false ih f = let z : k ≡ o = cc in omega arith
+
+pub differs-within : (xs ys : List ℕ) (o : ℕ) → difference xs ys ≡ At o → o < length xs
+differs-within xs ys o e = omega (arith, within 0 xs ys o e)
+
+pub same-nowhere : (l : List ℕ) → difference l l ≡ Nowhere
+same-nowhere l = differs-nowhere 0 l l refl (λ i h. refl)
+
+-- ---- runs that are filled or compared from the front
+
+-- one word more of a run is filled
+pub fill-more : (l s t : List ℕ) (at i p e w : ℕ) → s ≡ sets l at (repeated i w) → t ≡ sets s p (bytesOf 4 w) → at + i ≡ p → i + 4 ≡ e → i % 4 ≡ 0
+    → t ≡ sets l at (repeated e w)
+fill-more l s t at i p e w es et ep ee h =
+    rw (et, es, ← ee, repeated-more i w h) (sets-then l at i p (repeated i w) (bytesOf 4 w) (length-repeated i w) ep)
+
+-- the bytes of a run are those of a repeated word up to i
+abbrev pub SameTo : List ℕ → ℕ → ℕ → ℕ → Type 0
+SameTo s at w i = (k : ℕ) → k < i → getD s (at + k) 0 ≡ getD (bytesOf 4 w) (k % 4) 0
+
+module _ (s : List ℕ) (at len w : ℕ) (fits : at + len ≤ length s) where
+  both : (k : ℕ) → k < len → getD s (at + k) 0 ≡ getD (bytesOf 4 w) (k % 4) 0 → getD (part s at len) k 0 ≡ getD (repeated len w) k 0
+  both k h e = getD-part s at len k h ∙ e ∙ sym (getD-repeated len w k h)
+
+  pub run-differs : (i : ℕ) → i < len → SameTo s at w i → (getD s (at + i) 0 ≡ getD (bytesOf 4 w) (i % 4) 0 → ⊥)
+      → difference (part s at len) (repeated len w) ≡ At i
+  run-differs i h same ne =
+      differs-at 0 (part s at len) (repeated len w) i (omega (arith, length-part s at len fits)) (omega (arith, length-repeated len w))
+      (λ k g. both k (omega arith) (same k g))
+      (λ e. ne (sym (getD-part s at len i h) ∙ e ∙ getD-repeated len w i h))
+      ∙ ap At (zero-add i)
+
+  pub run-same : SameTo s at w len → difference (part s at len) (repeated len w) ≡ Nowhere
+  run-same same =
+      differs-nowhere 0 (part s at len) (repeated len w) (length-part s at len fits ∙ sym (length-repeated len w))
+      (λ k g. both k (omega (arith, length-part s at len fits)) (same k (omega (arith, length-part s at len fits))))
+
+  -- a place at which the run differs is a place of the run
+  pub run-within : (o : ℕ) (d : Difference) → d ≡ difference (part s at len) (repeated len w) → d ≡ At o → o < len
+  run-within o d e g = omega (arith, differs-within (part s at len) (repeated len w) o (sym e ∙ g), length-part s at len fits)
