@@ -16,7 +16,7 @@ use Rattle.words.proofs.Parts.{sets-next, sets-whole}
 use Rattle.words.proofs.Runs.{length-repeated, repeated-once}
 use Rattle.tags.specs.SizeCode.{decodedOf}
 use Rattle.tags.proofs.Tags.{decoded-within}
-use Rattle.chunks.specs.Chunk.{redzone, guard, bufferSize, chunkOf, freeChunk, grantedChunk}
+use Rattle.chunks.specs.Chunk.{redzone, guard, bufferSize, chunkOf, freeChunk, grantedChunk, LawfulGrant, grantSize}
 use Rattle.chunks.specs.Judge.{ifDiffers, r1Of, ofCode, zoneAfter, zoneVerdict, sizedVerdict, allocatedVerdict}
 use Rattle.tags.specs.declared.size_code.Decoded.{Decoded}
 use Rattle.tags.specs.declared.size_code.Decoded.the-variants.{Size, Bad}
@@ -55,6 +55,11 @@ pub length-grantedChunk : (size a : ℕ) (g : Grant) → length (grantedChunk si
 unfolding grantedChunk
 length-grantedChunk size a grant.Whole = simp (length-chunkOf, length-repeated)
 length-grantedChunk size a (grant.Sized s) = simp (length-set, length-chunkOf, length-repeated)
+
+-- a lawful grant lies in the buffer
+pub grant-within : (size : ℕ) (q : Grant) → LawfulGrant size q → grantSize size q ≤ size
+grant-within size grant.Whole l = omega arith
+grant-within size (grant.Sized s) l = l .1
 
 -- ---- a chunk is judged
 

@@ -44,6 +44,11 @@ abbrev pub LawfulGrant : ℕ → Grant → Type 0
 LawfulGrant size Whole = Unit {0}
 LawfulGrant size (Sized s) = (1 ≤ s) × (s ≤ size)
 
+-- "the first s, or all when whole": the client's bytes in a buffer of `size` bytes
+abbrev pub grantSize : ℕ → Grant → ℕ
+grantSize size Whole = size
+grantSize size (Sized s) = s
+
 -- a chunk with a fill, R1 and the tag of a record's address and a state; R0 is as laid down
 abbrev pub filledChunk : ℕ → ℕ → ℕ → ℕ → State → List ℕ
 filledChunk size fill r1 a s = chunkOf (repeated size fill) redzone r1 (tagOf a s .t0) (tagOf a s .t1)

@@ -3,15 +3,13 @@ use mathlib.Core.Path.{_≡_, refl, subst}
 use mathlib.Core.List.{List}
 use Prim.Native.Nat.{ℕ, _+_, _≤_}
 use native.Mathlib.Omega.{arith}
-use Rattle.chunks.specs.Chunk.{bufferSize, LawfulGrant}
+use Rattle.chunks.specs.Chunk.{bufferSize}
 use Rattle.chunks.specs.Judge.{allocatedVerdict}
 use Rattle.tags.specs.declared.tag.Pattern.{Pattern}
 use Rattle.tags.specs.declared.tag.Pattern.the-variants as pattern
-use Rattle.chunks.specs.declared.chunk.Grant.{Grant}
-use Rattle.chunks.specs.declared.chunk.Grant.the-variants as grant
 use Rattle.tags.specs.declared.verdict.Verdict.{Verdict}
 use Rattle.tags.specs.declared.verdict.Verdict.the-variants.{Free, Whole, Allocated, NotOneRecord, BadTag, FreedTwice, OffChain, OnChain, BadFill, BadRedzone, BadSizeCode, Overrun}
-use Rattle.chunks.proofs.Chunks.{allocated-within}
+use Rattle.chunks.proofs.Chunks.{allocated-within, grant-within}
 use Rattle.opening.specs.Areas.{Ready}
 use Rattle.holding.specs.Holding.{heldAs, heldBy, HeldIf, Holds, clientSize, clientAt}
 use Rattle.opening.specs.declared.sheet.Sheet.{Sheet}
@@ -42,10 +40,6 @@ module _ (s h r : ℕ) (g : Sheet) (i j : ℕ) (ready : Ready s h r g i j) where
 
 -- ---- where the client's bytes lie
 
-size-within : (g : Sheet) (q : Grant) → LawfulGrant (g .size) q → clientSize g q ≤ g .size
-size-within g grant.Whole w = omega arith
-size-within g (grant.Sized k) w = w .1
-
 -- the client's bytes lie in the heap, and are few
 pub record Client (h : ℕ) (p : Holding) : Type 0 where
   pub inside : clientAt p + clientSize (p .sheet) (p .grant) ≤ h
@@ -56,7 +50,7 @@ pub client-inside : (s h r : ℕ) (p : Holding) → Holds s h r p → Client h p
 client-inside s h r p k =
     let g = p .sheet in
     let law = k .ready .opened .law in
-    let w = size-within g (p .grant) (k .granted) in
+    let w = grant-within (g .size) (p .grant) (k .granted) in
     let m = law .sizes .most in
     let e = law .sizes .chunks in
     let a = chunk-inside g law (p .buffer) (k .ready .buffer) in

@@ -5,7 +5,7 @@ use lib.Dec.{eqb}
 use lib.ListN.{length}
 use Rattle.words.specs.Run.{pick}
 use Rattle.tags.specs.Tag.{patternOf}
-use Rattle.chunks.specs.Chunk.{tagAt, LawfulGrant}
+use Rattle.chunks.specs.Chunk.{tagAt, LawfulGrant, grantSize}
 use Rattle.chunks.specs.Judge.{allocatedVerdict}
 use Rattle.tags.specs.Verdict.{verdictNumber, verdictValue}
 use Rattle.tags.specs.declared.tag.Pattern.{Pattern}
@@ -58,8 +58,7 @@ heldOf a address = onOpened (openedOf (a .sheet) (length (a .heap)) (length (a .
 
 -- "the client's own bytes ..: the first s, or all when whole": how many they are
 abbrev pub clientSize : Sheet → Grant → ℕ
-clientSize g Whole = g .size
-clientSize g (Sized s) = s
+clientSize g q = grantSize (g .size) q
 
 -- where they start in the heap
 abbrev pub clientAt : Holding → ℕ

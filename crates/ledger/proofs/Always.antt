@@ -8,6 +8,9 @@ use native.Mathlib.Omega.{arith}
 use borrow.Author.Tests.{leb-true}
 use lib.Dec.{leb}
 use lib.ListN.{length}
+use Rattle.words.specs.Sum.{total}
+use Rattle.words.proofs.Sums.{total-change, total-none}
+use Rattle.chunks.specs.Chunk.{grantSize}
 use Rattle.chunks.specs.declared.chunk.Grant.{Grant}
 use Rattle.area.specs.Place.{placeOf}
 use Rattle.area.specs.Record.{nextWord}
@@ -21,8 +24,8 @@ use Rattle.area.specs.declared.place.Place.{Place}
 use Rattle.area.specs.declared.place.Place.the-variants as place
 use Rattle.area.proofs.Places.{address-one, place-found}
 use Rattle.allocation.proofs.Takings.{size-lawful}
-use Rattle.ledger.specs.Ledger.{Loan, Call, allocate, free, store, put, grantSize, fresh, laidOver, World, opened, step, run}
-use Rattle.ledger.proofs.Counts.{total, total-change, total-none, put-same, put-other, range}
+use Rattle.ledger.specs.Ledger.{Loan, Call, allocate, free, store, put, fresh, laidOver, World, opened, step, run}
+use Rattle.ledger.proofs.Counts.{put-same, put-other, range}
 use Rattle.ledger.proofs.State.{Laid, outs, Holds, chunk-some}
 use Rattle.ledger.proofs.Calls.{hold, taken-below, taken-in, allocate-unlawful, allocate-none, allocate-some, free-done, free-other, free-in, free-stray, store-done, store-past, store-in, store-stray}
 use Rattle.ledger.proofs.Keeps.{granted-holds, freed-holds, stored-holds}

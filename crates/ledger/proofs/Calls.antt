@@ -11,13 +11,15 @@ use lib.Dec.{leb}
 use lib.ListN.{length}
 use Rattle.words.specs.Word.{part}
 use Rattle.words.proofs.Parts.{part-part}
+use Rattle.chunks.proofs.Chunks.{grant-within}
+use Rattle.chunks.specs.Chunk.{grantSize}
 use Rattle.chunks.specs.declared.chunk.Grant.{Grant}
 use Rattle.chunks.specs.declared.chunk.Grant.the-variants as grant
 use Rattle.opening.specs.Areas.{Areas, refusedWith, bufferAddress, recordAddress, chunkAt}
 use Rattle.area.specs.Place.{placeOf}
 use Rattle.area.specs.Record.{recordSize, addressWord}
 use Rattle.allocation.specs.Allocate.{lawfulSize, takenChunk, takenHead, takenOf, allocatePlan, grantedAreas, allocateOf}
-use Rattle.holding.specs.Holding.{holding, heldAs, heldChunk, heldAt, heldOf, clientSize}
+use Rattle.holding.specs.Holding.{holding, heldAs, heldChunk, heldAt, heldOf}
 use Rattle.holding.specs.Free.{sameGrant, freePlan, freedAreas, freeOf}
 use Rattle.holding.specs.Store.{storePlan, storedAreas, storeOf}
 use Rattle.holding.specs.Show.{shownOf}
@@ -32,18 +34,14 @@ use Rattle.holding.specs.declared.holding.Held.the-variants as held
 use Rattle.holding.specs.declared.show.Shown.the-variants as shown
 use Rattle.area.proofs.Places.{place-at}
 use Rattle.verdicts.proofs.Marks.{occ-here}
-use Rattle.ledger.specs.Ledger.{Loan, headed, grantSize, asGranted}
-use Rattle.ledger.proofs.Chunks.{chunkFor, LawfulLoan, granted-verdict, grant-within, free-sound, client-part}
+use Rattle.ledger.specs.Ledger.{Loan, headed, asGranted}
+use Rattle.ledger.proofs.Chunks.{chunkFor, LawfulLoan, granted-verdict, free-sound, client-part}
 use Rattle.ledger.proofs.State.{Laid, outs, Holds, record-fits, records-some, chunk-some, first-below, first-address, none-linked, opens}
 use Rattle.ledger.proofs.Found.{first-for, pattern-for}
 
 held-as : (q : Grant) (g : Sheet) (i j : ℕ) → heldAs (asGranted q) g i j ≡ holding g i j q
 held-as grant.Whole g i j = refl
 held-as (grant.Sized s) g i j = refl
-
-pub client-size : (g : Sheet) (q : Grant) → clientSize g q ≡ grantSize (g .size) q
-client-size g grant.Whole = refl
-client-size g (grant.Sized s) = refl
 
 pub none-out : (o : Option Loan) → outs o ≡ 0 → o ≡ none
 none-out none e = refl
@@ -138,13 +136,13 @@ module _ (g : Sheet) (laid : Laid g) where
         → leb (offset + length bytes) (grantSize (g .size) (o .grant)) ≡ true
         → storeOf a (bufferAddress g j) offset bytes ≡ record { answer = outcome.Done; areas = storedAreas a offset bytes (hold head j (o .grant)) }
     unfolding storeOf storePlan
-    store-done j h o e offset bytes s = rw (held-out j h o e, client-size (headed g head) (o .grant), s)
+    store-done j h o e offset bytes s = rw (held-out j h o e, s)
 
     pub store-past : (j : ℕ) → j < g .count → (o : Loan) → out (bufferAddress g j) ≡ some o → (offset : ℕ) (bytes : List ℕ)
         → leb (offset + length bytes) (grantSize (g .size) (o .grant)) ≡ false
         → storeOf a (bufferAddress g j) offset bytes ≡ refusedWith (outcome.Refused PastClient) a
     unfolding storeOf storePlan
-    store-past j h o e offset bytes s = rw (held-out j h o e, client-size (headed g head) (o .grant), s)
+    store-past j h o e offset bytes s = rw (held-out j h o e, s)
 
     pub store-in : (j : ℕ) → j < g .count → out (bufferAddress g j) ≡ none → (offset : ℕ) (bytes : List ℕ)
         → storeOf a (bufferAddress g j) offset bytes ≡ refusedWith (outcome.Refused NotAllocated) a
@@ -161,7 +159,7 @@ module _ (g : Sheet) (laid : Laid g) where
     pub show-out : (j : ℕ) → j < g .count → (o : Loan) → out (bufferAddress g j) ≡ some o
         → shownOf a (bufferAddress g j) ≡ shown.Client (j * g .chunk) (grantSize (g .size) (o .grant))
     unfolding shownOf
-    show-out j h o e = rw (held-out j h o e, client-size (headed g head) (o .grant))
+    show-out j h o e = rw (held-out j h o e)
 
     pub show-in : (j : ℕ) → j < g .count → out (bufferAddress g j) ≡ none → shownOf a (bufferAddress g j) ≡ shown.Refused NotAllocated
     unfolding shownOf

@@ -19,16 +19,16 @@ use Rattle.words.proofs.Parts.{getD-part, part-left, part-right, part-all, part
 use Rattle.words.proofs.Runs.{length-repeated, repeated-more, repeated-once, same-nowhere, part-repeated}
 use Rattle.tags.specs.Tag.{tagOf, stateWord}
 use Rattle.tags.specs.SizeCode.{codeOf}
-use Rattle.chunks.specs.Chunk.{redzone, freeFill, grantFill, guard, chunkOf, freeChunk, grantedChunk, tagAt, LawfulGrant}
+use Rattle.chunks.specs.Chunk.{redzone, freeFill, grantFill, guard, chunkOf, freeChunk, grantedChunk, tagAt, LawfulGrant, grantSize}
 use Rattle.chunks.specs.Judge.{freeVerdict, allocatedVerdict, sizedVerdict, zoneVerdict, zoneAfter}
 use Rattle.tags.proofs.Tags.{decode-code}
-use Rattle.chunks.proofs.Chunks.{length-chunkOf, length-freeChunk, length-grantedChunk}
+use Rattle.chunks.proofs.Chunks.{length-chunkOf, length-freeChunk, length-grantedChunk, grant-within}
 use Rattle.tags.specs.declared.tag.State.{State}
 use Rattle.tags.specs.declared.tag.State.the-variants as state
 use Rattle.chunks.specs.declared.chunk.Grant.{Grant}
 use Rattle.chunks.specs.declared.chunk.Grant.the-variants as grant
 use Rattle.tags.specs.declared.verdict.Verdict.the-variants.{Free, Whole, Allocated}
-use Rattle.ledger.specs.Ledger.{Loan, grantSize, fresh, laidOver, asGranted}
+use Rattle.ledger.specs.Ledger.{Loan, fresh, laidOver, asGranted}
 
 -- ---- the words behind the buffer
 
@@ -180,14 +180,6 @@ chunkFor size a (some o) = sets (grantedChunk size a (o .grant)) 0 (o .client)
 abbrev pub LawfulLoan : ℕ → Option Loan → Type 0
 LawfulLoan size none = Unit {0}
 LawfulLoan size (some o) = LawfulGrant size (o .grant) × (length (o .client) ≡ grantSize size (o .grant))
-
-pub length-chunkFor : (size a : ℕ) (o : Option Loan) → length (chunkFor size a o) ≡ size + 16
-length-chunkFor size a none = length-freeChunk size a
-length-chunkFor size a (some o) = length-sets (grantedChunk size a (o .grant)) 0 (o .client) ∙ length-grantedChunk size a (o .grant)
-
-pub grant-within : (size : ℕ) (q : Grant) → LawfulGrant size q → grantSize size q ≤ size
-grant-within size grant.Whole l = omega arith
-grant-within size (grant.Sized s) l = l .1
 
 module _ (size a : ℕ) (few : size ≤ 4096) (word : a < 4294967296) where
   tag-word : (s : State) → tagOf a s .t1 < 4294967296

@@ -1,4 +1,4 @@
--- Sums over the buffers, the numbers from one on, and the ledger's map. Assumes nothing.
+-- The numbers from one on, and the ledger's map. Assumes nothing.
 use mathlib.Core.Path.{_≡_, refl, sym, ap, _∙_, subst}
 use mathlib.Core.Logic.{_≢_}
 use mathlib.Core.List.{List, [], _∷_}
@@ -13,38 +13,6 @@ use Rattle.area.specs.declared.place.Place.the-variants.{Nowhere}
 use Rattle.area.proofs.Places.{address-one, place-missed}
 use Rattle.verdicts.proofs.Marks.{occ-none, occ-here, occ-apart}
 use Rattle.ledger.specs.Ledger.{Loan, put}
-
--- ---- sums
-
--- f 0 + .. + f (n - 1)
-unfoldable pub total : (ℕ → ℕ) → ℕ → ℕ
-total f zero = 0
-total f (suc n) = f n + total f n
-
-pub total-same : (f g : ℕ → ℕ) (n : ℕ) → ((i : ℕ) → i < n → f i ≡ g i) → total f n ≡ total g n
-unfolding total
-total-same f g zero h = refl
-total-same f g (suc n) h = omega (arith, h n (omega arith), total-same f g n (λ i l. h i (omega arith)))
-
--- one summand is changed
-pub total-change : (f g : ℕ → ℕ) (n j : ℕ) → j < n → ((i : ℕ) → i < n → i ≢ j → f i ≡ g i) → total f n + g j ≡ total g n + f j
-unfolding total
-total-change f g zero j l h = absurd (omega arith)
-total-change f g (suc n) j l h = go (ℕ-discrete j n) (total-change f g n j)
-  where
-    go : Dec (j ≡ n) → (j < n → ((i : ℕ) → i < n → i ≢ j → f i ≡ g i) → total f n + g j ≡ total g n + f j) → f n + total f n + g j ≡ g n + total g n + f j
-    go (yes e) ih =
-        let s : total f n ≡ total g n = total-same f g n (λ i k. h i (omega arith) (λ q. omega arith)) in
-        omega (arith, ap f e, ap g e)
-    go (no ne) ih =
-        let a : total f n + g j ≡ total g n + f j = ih (omega arith) (λ i k q. h i (omega arith) q) in
-        let b : f n ≡ g n = h n (omega arith) (λ q. ne (sym q)) in
-        omega arith
-
-pub total-none : (n : ℕ) → total (λ i. 0) n ≡ 0
-unfolding total
-total-none zero = refl
-total-none (suc n) = omega (arith, total-none n)
 
 -- ---- the numbers from one on
 

@@ -9,6 +9,8 @@ use native.Mathlib.Decide.{ℕ-discrete}
 use native.Mathlib.Omega.{arith}
 use borrow.Author.Tests.{eq-eqb, ne-eqb}
 use lib.Dec.{eqb}
+use Rattle.words.specs.Sum.{total}
+use Rattle.words.proofs.Sums.{total-same}
 use Rattle.tags.specs.Tag.{tagOf, patternOf, statePattern}
 use Rattle.chunks.specs.Chunk.{tagAt}
 use Rattle.tags.specs.Verdict.{verdictNumber}
@@ -27,9 +29,8 @@ use Rattle.verdicts.specs.declared.chain.Ending.the-variants.{End}
 use Rattle.verdicts.specs.declared.pairing.Own.the-variants.{One}
 use Rattle.area.proofs.Places.{address-one}
 use Rattle.verdicts.proofs.Chains.{linked-chain}
-use Rattle.ledger.specs.Ledger.{Loan, headed, asGranted, asNoted, foundAllocated}
+use Rattle.ledger.specs.Ledger.{Loan, headed, asGranted, asNoted, allocatedOne, foundAllocated}
 use Rattle.ledger.proofs.Chunks.{chunkFor, stateFor, LawfulLoan, tag-for, granted-verdict, free-sound}
-use Rattle.ledger.proofs.Counts.{total}
 use Rattle.ledger.proofs.State.{Laid, outs, Holds, record-fits, records-some, chunk-some, once}
 
 -- ---- own records
@@ -95,17 +96,14 @@ module _ (g : Sheet) (laid : Laid g) {head : ℕ} {a : Areas} {out : ℕ → Opt
       rw (own-is i h, chain-is, v .chunks i h)
       (owned-for (g .size) (recordAddress g i) (laid .law .sizes .most) (record-fits g laid i h) (out (bufferAddress g i)) (v .loans i h) (occ i chain) (v .each i h))
 
-noted-count : (o : Option Loan) (v : Verdict) → v ≡ asNoted o → foundAllocated (λ i. v) 1 ≡ outs o
-unfolding foundAllocated
-noted-count none v e = rw e
-noted-count (some o) v e = rw e (granted-one (o .grant))
-  where
-    granted-one : (q : Grant) → foundAllocated (λ i. asGranted q) 1 ≡ 1
-    granted-one grant.Whole = refl
-    granted-one (grant.Sized s) = refl
+granted-one : (q : Grant) → allocatedOne (asGranted q) ≡ 1
+granted-one grant.Whole = refl
+granted-one (grant.Sized s) = refl
+
+noted-one : (o : Option Loan) → allocatedOne (asNoted o) ≡ outs o
+noted-one none = refl
+noted-one (some o) = granted-one (o .grant)
 
 -- the number found allocated is the number out
 pub found-count : (v : ℕ → Verdict) (o : ℕ → Option Loan) (n : ℕ) → ((i : ℕ) → i < n → v i ≡ asNoted (o i)) → foundAllocated v n ≡ total (λ i. outs (o i)) n
-unfolding foundAllocated total
-found-count v o zero h = refl
-found-count v o (suc n) h = omega (arith, noted-count (o n) (v n) (h n (omega arith)), found-count v o n (λ i l. h i (omega arith)))
+found-count v o n h = total-same (λ i. allocatedOne (v i)) (λ i. outs (o i)) n (λ i l. ap allocatedOne (h i l) ∙ noted-one (o i))

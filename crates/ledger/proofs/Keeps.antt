@@ -11,8 +11,8 @@ use lib.Seq.{sets, length-sets}
 use Rattle.words.specs.Word.{part, number, bytesOf, numberAt}
 use Rattle.words.proofs.Numbers.{length-bytesOf, numberAt-written}
 use Rattle.words.proofs.Parts.{part-written, part-inside, part-place, part-field}
-use Rattle.chunks.specs.Chunk.{LawfulGrant, freeChunk, grantedChunk}
-use Rattle.chunks.proofs.Chunks.{length-freeChunk, length-grantedChunk}
+use Rattle.chunks.specs.Chunk.{LawfulGrant, freeChunk, grantedChunk, grantSize}
+use Rattle.chunks.proofs.Chunks.{length-freeChunk, length-grantedChunk, grant-within}
 use Rattle.chunks.specs.declared.chunk.Grant.{Grant}
 use Rattle.opening.specs.Areas.{Areas, bufferAddress, recordAddress, chunkAt}
 use Rattle.area.specs.Record.{stamped, recordSize, recordWord, nextWord}
@@ -25,8 +25,8 @@ use Rattle.opening.specs.declared.sheet.Sheet.{Sheet}
 use Rattle.opening.proofs.Sheets.{chunk-inside, record-inside}
 use Rattle.verdicts.proofs.Marks.{occ-cons, occ-here, occ-apart}
 use Rattle.verdicts.proofs.Chains.{linked-same}
-use Rattle.ledger.specs.Ledger.{Loan, put, fresh, laidOver, grantSize, headed}
-use Rattle.ledger.proofs.Chunks.{chunkFor, LawfulLoan, grant-within, fresh-chunk, fresh-lawful, store-chunk, store-lawful}
+use Rattle.ledger.specs.Ledger.{Loan, put, fresh, laidOver, headed}
+use Rattle.ledger.proofs.Chunks.{chunkFor, LawfulLoan, fresh-chunk, fresh-lawful, store-chunk, store-lawful}
 use Rattle.ledger.proofs.Sheets.{sheet-head}
 use Rattle.ledger.proofs.Counts.{at-put, stray-put}
 use Rattle.ledger.proofs.State.{Laid, outs, Holds, chunk-some, first-address, rest-linked, head-fits}

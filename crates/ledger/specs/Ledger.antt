@@ -5,13 +5,14 @@ use mathlib.Core.Logic.{_≢_, _↔_}
 use mathlib.Core.Bool.{Bool, true, false, _||_}
 use mathlib.Core.List.{List, [], _∷_}
 use mathlib.Core.Option.{Option, none, some}
-use Prim.Native.Nat.{ℕ, zero, suc, _+_, _<_}
+use Prim.Native.Nat.{ℕ, suc, _+_, _<_}
 use lib.Dec.{eqb}
 use lib.ListN.{length}
 use lib.Seq.{sets}
 use Rattle.words.specs.Word.{part}
+use Rattle.words.specs.Sum.{total}
 use Rattle.words.specs.Run.{pick, repeated}
-use Rattle.chunks.specs.Chunk.{grantFill}
+use Rattle.chunks.specs.Chunk.{grantFill, grantSize}
 use Rattle.tags.specs.Verdict.{verdictNumber}
 use Rattle.chunks.specs.declared.chunk.Grant.{Grant}
 use Rattle.chunks.specs.declared.chunk.Grant.the-variants as grant
@@ -74,11 +75,6 @@ pub record Ledger : Type 0 where
 -- what stands at one address is changed
 unfoldable pub put : ℕ → Option Loan → (ℕ → Option Loan) → ℕ → Option Loan
 put a o f x = pick (eqb x a) o (f x)
-
--- "s bytes, or the whole buffer", of a buffer of `size` bytes
-abbrev pub grantSize : ℕ → Grant → ℕ
-grantSize size grant.Whole = size
-grantSize size (grant.Sized s) = s
 
 -- "its grant is the size s asked for, or whole, and its client bytes are s bytes, or the whole buffer, as the grant's fill, the uninitialised pattern, leaves
 -- them"
@@ -162,10 +158,12 @@ abbrev pub asNoted : Option Loan → Verdict
 asNoted none = verdict.Free
 asNoted (some o) = asGranted (o .grant)
 
--- "found allocated is 1 or 2": how many of n verdicts are
-unfoldable pub foundAllocated : (ℕ → Verdict) → ℕ → ℕ
-foundAllocated v zero = 0
-foundAllocated v (suc i) = pick (eqb (verdictNumber (v i)) 1 || eqb (verdictNumber (v i)) 2) 1 0 + foundAllocated v i
+-- "found allocated is 1 or 2": 1 for such a verdict, and how many of n are
+abbrev pub allocatedOne : Verdict → ℕ
+allocatedOne v = pick (eqb (verdictNumber v) 1 || eqb (verdictNumber v) 2) 1 0
+
+abbrev pub foundAllocated : (ℕ → Verdict) → ℕ → ℕ
+foundAllocated v n = total (λ i. allocatedOne (v i)) n
 
 -- how often the chain must meet the record of a buffer: once if it is not out, and not at all if it is
 abbrev pub timesMet : Option Loan → ℕ

@@ -10,7 +10,7 @@ use lib.Seq.{sets}
 use Rattle.io.specs.Digits.{glyph, digits, Fewest}
 use Rattle.words.proofs.Parts.{sets-next}
 use Rattle.verdicts.specs.declared.chain.Ending.{Ending}
-use Rattle.lines.specs.Text.{decimalWith, headerOf, linesOf, chainLineOf, faultOf, faultsIn, faultsOf, textOf, Wrote, writtenOf, outputOf}
+use Rattle.lines.specs.Text.{decimalWith, headerOf, linesOf, chainLineOf, faultsIn, faultsOf, textOf, Wrote, writtenOf, outputOf}
 use Rattle.lines.specs.declared.text.Written.the-variants.{Length, Short}
 
 -- ---- pieces
@@ -70,15 +70,6 @@ module _ (number value : ℕ → ℕ) where
       → headerOf ++ linesOf number value i ++ chainLineOf met ending ++ faultsOf faults ≡ textOf number value n met ending
   unfolding textOf
   text-is i n faults met ending e q = rw (q, e)
-
-module _ (number : ℕ → ℕ) where
-  pub faults-none : faultsIn number 0 ≡ 0
-  unfolding faultsIn
-  faults-none = refl
-
-  pub faults-more : (i : ℕ) → faultsIn number (suc i) ≡ faultsIn number i + faultOf (number i)
-  unfolding faultsIn
-  faults-more i = refl
 
 -- ---- all or nothing
 

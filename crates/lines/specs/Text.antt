@@ -10,6 +10,7 @@ use lib.ListN.{length, getD}
 use lib.Seq.{sets}
 use Rattle.words.specs.Word.{flat}
 use Rattle.words.specs.Run.{pick}
+use Rattle.words.specs.Sum.{total}
 use Rattle.verdicts.specs.declared.chain.Ending.{Ending}
 use Rattle.verdicts.specs.declared.chain.Ending.the-variants.{End, Broken, Again}
 use Rattle.lines.specs.declared.text.Written.{Written}
@@ -76,9 +77,8 @@ abbrev pub faultOf : ℕ → ℕ
 faultOf number = pick (ltb number 20) 0 1
 
 -- "`faults` counts fault lines only": how many of the first n there are
-unfoldable pub faultsIn : (ℕ → ℕ) → ℕ → ℕ
-faultsIn number zero = 0
-faultsIn number (suc i) = faultsIn number i + faultOf (number i)
+abbrev pub faultsIn : (ℕ → ℕ) → ℕ → ℕ
+faultsIn number n = total (λ i. faultOf (number i)) n
 
 -- the last line
 abbrev pub faultsOf : ℕ → List ℕ

@@ -2,8 +2,8 @@
 use mathlib.Core.Path.{_≡_, refl, sym, ap, _∙_}
 use mathlib.Core.Bool.{Bool, true, false}
 use mathlib.Core.List.{List}
-use Prim.Native.Nat.{ℕ, zero, suc, _+_, _*_, _≤_, _<_}
-use native.Mathlib.Nat.{le-step, mul-comm}
+use Prim.Native.Nat.{ℕ, _+_, _*_, _≤_, _<_}
+use native.Mathlib.Nat.{mul-comm}
 use native.Mathlib.Omega.{arith}
 use borrow.Author.Tests.{le-leb}
 use lib.Dec.{leb}
@@ -11,6 +11,7 @@ use lib.ListN.{length, getD}
 use lib.Seq.{sets}
 use Rattle.words.specs.Run.{pick}
 use Rattle.words.proofs.Parts.{flat-same}
+use Rattle.words.proofs.Sums.{total-same}
 use Rattle.tags.specs.Verdict.{verdictNumber, verdictValue}
 use Rattle.opening.specs.Sheet.{openedWithLog, onOpened}
 use Rattle.verdicts.specs.Judge.{verdictOf, imageChain}
@@ -22,7 +23,7 @@ use Rattle.area.specs.declared.refusal.Refusal.{Refusal}
 use Rattle.area.specs.declared.refusal.Refusal.the-variants.{ShortOutput}
 use Rattle.opening.proofs.Sheets.{logged-law}
 use Rattle.image.proofs.Findings.{finding}
-use Rattle.lines.specs.Text.{textOf, lineOf, faultsIn, rowNumber, rowValue, writtenOf, outputOf}
+use Rattle.lines.specs.Text.{textOf, lineOf, faultOf, rowNumber, rowValue, writtenOf, outputOf}
 use Rattle.report.specs.Answer.{reportText, Reporting, reportOf}
 use Rattle.report.specs.declared.answer.Reported.the-variants.{Length, Refused}
 use Rattle.opening.specs.declared.sheet.Opened.the-variants as opened
@@ -30,11 +31,6 @@ use Rattle.image.specs.declared.inspect.Surveyed.the-variants as surveys
 use Rattle.lines.specs.declared.text.Written.the-variants as written
 
 -- ---- the text looks at the first n buffers only
-
-faults-same : (f g : ℕ → ℕ) (n : ℕ) → ((i : ℕ) → i < n → f i ≡ g i) → faultsIn f n ≡ faultsIn g n
-unfolding faultsIn
-faults-same f g zero h = refl
-faults-same f g (suc n) h = rw (faults-same f g n (λ i l. h i (le-step l)), h n (omega arith))
 
 -- the text of the rows that a survey leaves is the text of the image
 pub rows-text : (g : Sheet) (heap records rows : List ℕ) → g .count * 3 ≤ length rows →
@@ -47,7 +43,8 @@ rows-text g heap records rows room =
     let value : (i : ℕ) → i < g .count → rowValue r i ≡ verdictValue (verdictOf g heap records i) = (λ i h. at i 2 ∙ finding g heap records rows room i h 2 (omega arith)) in
     let lines = flat-same (λ i. lineOf i (rowNumber r i) (rowValue r i)) (λ i. lineOf i (verdictNumber (verdictOf g heap records i)) (verdictValue (verdictOf g heap records i))) (g .count)
     (λ i h. rw (number i h, value i h)) in
-    rw (lines, faults-same (rowNumber r) (λ i. verdictNumber (verdictOf g heap records i)) (g .count) number)
+    let faults = total-same (λ i. faultOf (rowNumber r i)) (λ i. faultOf (verdictNumber (verdictOf g heap records i))) (g .count) (λ i h. ap faultOf (number i h)) in
+    rw (lines, faults)
   where
     at : (i k : ℕ) → getD (sets rows 0 (tableOf g heap records)) (3 * i + k) 0 ≡ getD (sets rows 0 (tableOf g heap records)) (i * 3 + k) 0
     at i k = ap (λ (x : ℕ). getD (sets rows 0 (tableOf g heap records)) (x + k) 0) (mul-comm 3 i)

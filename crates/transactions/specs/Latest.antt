@@ -12,13 +12,11 @@ use Rattle.words.specs.Age.{ageOf}
 use Rattle.tags.specs.declared.verdict.Verdict.the-variants.{NotOneRecord}
 use Rattle.area.specs.Record.{recordSize, recordWord, stampHighAt, stampLowAt}
 use Rattle.opening.specs.Sheet.{openedWithLog, onOpened}
-use Rattle.verdicts.specs.Pairing.{ownOf}
+use Rattle.verdicts.specs.Pairing.{ownOf, byOwn}
 use Rattle.opening.specs.Areas.{bufferAddress, recordAddress}
 use Rattle.opening.specs.declared.sheet.Sheet.{Sheet}
 use Rattle.area.specs.declared.place.Place.{Place}
 use Rattle.area.specs.declared.place.Place.the-variants as place
-use Rattle.verdicts.specs.declared.pairing.Own.{Own}
-use Rattle.verdicts.specs.declared.pairing.Own.the-variants.{One, NotOne}
 use Rattle.area.specs.declared.refusal.Refusal.the-variants.{NoSuchBuffer, Damage, WideStamp}
 use Rattle.transactions.specs.declared.latest.Best.{Best}
 use Rattle.transactions.specs.declared.latest.Transaction.{Transaction}
@@ -62,15 +60,10 @@ ownedLatest g records log time j =
     (rowOrRecord (latestRow log (recordAddress g j) time (firstBest (recordWord records j stampLowAt) time) (length log / rowSize) .row) j)
     (Refused WideStamp)
 
--- "7 with 20"
-abbrev pub byOwnLatest : Own → (ℕ → Transaction) → Transaction
-byOwnLatest (One j) f = f j
-byOwnLatest NotOne f = Refused (Damage NotOneRecord)
-
--- "4: .. index not below n"
+-- "4: .. index not below n", "7 with 20"
 unfoldable pub indexedLatest : Sheet → List ℕ → List ℕ → ℕ → ℕ → Transaction
 indexedLatest g records log index time =
-    pick (ltb index (g .count)) (byOwnLatest (ownOf records (g .count) (bufferAddress g index)) (ownedLatest g records log time)) (Refused NoSuchBuffer)
+    pick (ltb index (g .count)) (byOwn (ownOf records (g .count) (bufferAddress g index)) (ownedLatest g records log time) (Refused (Damage NotOneRecord))) (Refused NoSuchBuffer)
 
 -- "Latest: 4, 7 with 20, 12"
 unfoldable pub latestOf : List ℕ → List ℕ → List ℕ → List ℕ → ℕ → ℕ → Transaction

@@ -10,8 +10,8 @@ use borrow.Author.Tests.{eq-eqb, ne-eqb}
 use lib.ListN.{length}
 use Rattle.area.specs.Place.{placeOf}
 use Rattle.area.specs.Record.{recordSize, nextWord}
-use Rattle.verdicts.specs.Chain.{occ, Chain, stop, meets, chainFrom, chainOf}
-use Rattle.verdicts.specs.Walk.{mark, marksOf, chainAfter, ofPlace, endingAt, wordValues, Gives, Linked}
+use Rattle.verdicts.specs.Chain.{occ, Chain, stop, meets, chainFrom, chainOf, chainAfter}
+use Rattle.verdicts.specs.Walk.{mark, marksOf, ofPlace, endingAt, wordValues, Gives, Linked}
 use Rattle.area.specs.declared.place.Place.{Place}
 use Rattle.area.specs.declared.place.Place.the-variants.{At, Nowhere}
 use Rattle.verdicts.specs.declared.chain.Ending.{Ending}
@@ -118,7 +118,7 @@ module _ (records : List ℕ) (base n : ℕ) where
   within w i e = place-found base recordSize n w i e .0
 
   pub chain-whole : (head : ℕ) → chainOf records base n head ≡ chainAfter records base n [] head
-  unfolding chainOf chainAfter
+  unfolding chainOf
   chain-whole head = refl
 
   -- The rule, with no bound on the steps.
@@ -206,18 +206,6 @@ module _ (records : List ℕ) (base n : ℕ) where
 
     pub chain-again-below : (i : ℕ) → chainOf records base n head .ending ≡ Again i → i < n
     chain-again-below i e = chain-below i (let h = chain-met-again i e in omega arith)
-
-    -- a chain that ends is linked
-    pub chain-linked : chainOf records base n head .ending ≡ End → Linked (nextWord records) base n head (chainOf records base n head .met)
-    unfolding Linked
-    chain-linked = rw chain-whole
-        (chain-by (λ seen w c. c .ending ≡ End → Linked (nextWord records) base n w (c .met))
-        (record {
-          ends = λ seen w z e. z;
-          breaks = λ seen w z e q. absurd (let z : _≡_ {A = ℕ} 0 1 = cc in omega arith);
-          repeats = λ seen w i z e m q. absurd (let z : _≡_ {A = ℕ} 0 1 = cc in omega arith);
-          goes-on = λ seen w i c z e m r q. let f = place-found base recordSize n w i e in (f .0, (f .1, r q));
-        }) [] head)
 
   -- a list of records, none of them twice and none met already, that are linked from the word w down to 0
   linked-after : base ≢ 0 → (l seen : List ℕ) (w : ℕ) → Linked (nextWord records) base n w l → ((i : ℕ) → occ i seen + occ i l ≤ 1)

@@ -5,7 +5,7 @@ use Prim.Native.Nat.{ℕ, zero, suc, _+_}
 use lib.Dec.{eqb}
 use Rattle.words.specs.Run.{pick}
 use Rattle.area.specs.Place.{placeOf, placed}
-use Rattle.area.specs.Record.{recordSize, recordWord, nextAt}
+use Rattle.area.specs.Record.{recordSize, nextWord}
 use Rattle.area.specs.declared.place.Place.{Place}
 use Rattle.verdicts.specs.declared.chain.Ending.{Ending}
 use Rattle.verdicts.specs.declared.chain.Ending.the-variants.{End, Broken, Again}
@@ -35,6 +35,10 @@ chainFrom next at (suc k) seen w =
     pick (eqb w 0) (stop End)
     (placed (at w) (λ i. pick (eqb (occ i seen) 0) (meets i (chainFrom next at k (i ∷ seen) (next i))) (stop (Again i))) (stop Broken))
 
--- the chain from the head, of the n records in `records` at the address `base`
+-- the same, of the n records in `records` at the address `base`
+unfoldable pub chainAfter : List ℕ → ℕ → ℕ → List ℕ → ℕ → Chain
+chainAfter records base n seen w = chainFrom (nextWord records) (placeOf base recordSize n) (suc n) seen w
+
+-- "It starts at the head.": the whole chain
 unfoldable pub chainOf : List ℕ → ℕ → ℕ → ℕ → Chain
-chainOf records base n head = chainFrom (λ j. recordWord records j nextAt) (placeOf base recordSize n) (suc n) [] head
+chainOf records base n head = chainAfter records base n [] head

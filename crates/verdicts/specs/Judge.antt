@@ -14,12 +14,11 @@ use Rattle.tags.specs.declared.verdict.Verdict.{Verdict}
 use Rattle.tags.specs.declared.verdict.Verdict.the-variants.{NotOneRecord, BadTag, FreedTwice, OffChain, OnChain}
 use Rattle.opening.specs.Areas.{bufferAddress, chunkAt, recordAddress}
 use Rattle.verdicts.specs.Chain.{Chain, occ, chainOf}
-use Rattle.verdicts.specs.Pairing.{ownOf}
+use Rattle.verdicts.specs.Pairing.{ownOf, byOwn}
 use Rattle.opening.specs.declared.sheet.Sheet.{Sheet}
 use Rattle.verdicts.specs.declared.chain.Ending.{Ending}
 use Rattle.verdicts.specs.declared.chain.Ending.the-variants.{End, Broken, Again}
 use Rattle.verdicts.specs.declared.pairing.Own.{Own}
-use Rattle.verdicts.specs.declared.pairing.Own.the-variants.{One, NotOne}
 
 abbrev pub isFree : Pattern → Bool
 isFree pattern.Free = true
@@ -59,14 +58,9 @@ againAt End j = false
 againAt Broken j = false
 againAt (Again i) j = eqb i j
 
--- "20: not exactly one record names it."
-abbrev pub byOwn : Own → (ℕ → Verdict) → Verdict
-byOwn (One j) f = f j
-byOwn NotOne f = NotOneRecord
-
--- the verdict on buffer i, given its own record, which records the chain met, and how it ends
+-- "20: not exactly one record names it."; the verdict on buffer i, given its own record, which records the chain met, and how it ends
 unfoldable pub judged : List ℕ → Sheet → ℕ → Own → (ℕ → Bool) → Ending → Verdict
-judged heap g i own met ending = byOwn own (λ j. ownedVerdict (chunkAt g heap i) (recordAddress g j) (met j) (againAt ending j))
+judged heap g i own met ending = byOwn own (λ j. ownedVerdict (chunkAt g heap i) (recordAddress g j) (met j) (againAt ending j)) NotOneRecord
 
 -- the chain of an image
 abbrev pub imageChain : Sheet → List ℕ → Chain

@@ -27,6 +27,11 @@ theOne (j ∷ (k ∷ l)) = NotOne
 unfoldable pub ownOf : List ℕ → ℕ → ℕ → Own
 ownOf records n a = theOne (namers (addressWord records) n a)
 
+-- by the own record, if there is one
+abbrev pub byOwn : {A : Type 0} → Own → (ℕ → A) → A → A
+byOwn (One j) f none = f j
+byOwn NotOne f none = none
+
 -- ---- how the code holds it
 
 -- what a mark says

@@ -6,8 +6,8 @@ use lib.Dec.{eqb}
 use lib.ListN.{length}
 use Rattle.words.specs.Run.{pick}
 use Rattle.area.specs.Place.{placeAddress, placeOf}
-use Rattle.area.specs.Record.{recordSize, nextWord}
-use Rattle.verdicts.specs.Chain.{occ, Chain, chainFrom}
+use Rattle.area.specs.Record.{recordSize}
+use Rattle.verdicts.specs.Chain.{occ, Chain, chainAfter}
 use Rattle.area.specs.declared.place.Place.{Place}
 use Rattle.area.specs.declared.place.Place.the-variants.{At, Nowhere}
 use Rattle.verdicts.specs.declared.chain.Ending.{Ending}
@@ -35,10 +35,6 @@ unmarked (suc m) k = k
 unfoldable pub unmet : List ℕ → ℕ
 unmet [] = 0
 unmet (m ∷ l) = unmarked m (unmet l)
-
--- the chain from the word w, where the records `seen` are met already
-unfoldable pub chainAfter : List ℕ → ℕ → ℕ → List ℕ → ℕ → Chain
-chainAfter records base n seen w = chainFrom (nextWord records) (placeOf base recordSize n) (suc n) seen w
 
 -- how a chain ends that stops at the word w, which is not 0: at a record, which is then one already met, or at none
 abbrev pub ofPlace : Place → Ending

@@ -9,7 +9,7 @@ use native.Mathlib.Decide.{ℕ-discrete, decLe}
 use native.Mathlib.Numerals.{add-one}
 use native.Mathlib.Omega.{arith}
 use lib.ListN.{length, take, drop, getD, set, length-take, length-drop, length-append, length-set, take-append-drop, drop-of-length-le}
-use lib.Seq.{sets, sets-eq, length-sets, take-take, take-suc, take-length, drop-length, drop-drop, drop-append-le, drop-append-add, take-append-le, take-append-seam, drop-at, length-take-le, drop-set-add, take-set-le, take-set-lt, drop-set-lt, drop-cons, getD-take, getD-drop, set-append-left}
+use lib.Seq.{sets, sets-eq, length-sets, take-take, take-length, drop-length, drop-drop, drop-append-le, drop-append-add, take-append-le, take-append-seam, drop-at, length-take-le, drop-set-add, take-set-le, take-set-lt, drop-set-lt, drop-cons, getD-take, getD-drop, set-append-left}
 use Rattle.words.specs.Word.{part, flat}
 
 -- ---- a part of a list

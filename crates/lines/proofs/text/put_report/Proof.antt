@@ -7,7 +7,8 @@ use native.Mathlib.Omega.{arith}
 use borrow.Author.Needs.{needs}
 use Rattle.lines.specs.Text.{lineOf, linesOf, faultOf, faultsIn, textOf, rowNumber, rowValue, Wrote}
 use Rattle.words.proofs.Parts.{flat-nil, flat-suc}
-use Rattle.lines.proofs.Texts.{then, wrote-none, faults-none, faults-more, text-is}
+use Rattle.words.proofs.Sums.{total-zero, total-suc}
+use Rattle.lines.proofs.Texts.{then, wrote-none, text-is}
 use Rattle.lines.proofs.text.put_report.Statement.{statement}
 use Rattle.lines.proofs.text.put_report.Tie as tie
 
@@ -33,7 +34,7 @@ loop-holds c =
       search needs,
       search needs,
       omega (arith, h .ensures .1),
-      sym (faults-none (rowNumber r)),
+      sym (total-zero (λ (i : ℕ). faultOf (rowNumber r i))),
       subst (λ (x : List ℕ). Wrote (h .last .0) (h .result) x (h .last .0) (h .result)) none (wrote-none (h .last .0) (h .result)),
     )
 
@@ -86,7 +87,7 @@ loop-again c =
       search needs,
       omega (arith, f .1, e .1),
       omega (arith, w .1, e .2),
-      rw (add-one, faults-more (rowNumber r)) (ap (λ (x : ℕ). l .faults + x) (f .0) ∙ ap (λ (x : ℕ). x + faultOf (rowNumber r (l .i))) (e .3)),
+      rw (add-one, total-suc) (ap (λ (x : ℕ). l .faults + x) (f .0) ∙ ap (λ (x : ℕ). x + faultOf (rowNumber r (l .i))) (e .3)),
       rw (add-one, flat-suc) (then (e .4) (w .0)),
     )
 

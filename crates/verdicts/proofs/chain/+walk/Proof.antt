@@ -10,8 +10,8 @@ use borrow.Fn.PlainCycle.{Measures, is, falls, and}
 use lib.ListN.{length, set, length-set}
 use Rattle.area.specs.Place.{placeAddress, placeOf}
 use Rattle.area.specs.Record.{recordSize, nextAt}
-use Rattle.verdicts.specs.Chain.{meets}
-use Rattle.verdicts.specs.Walk.{unmet, chainAfter}
+use Rattle.verdicts.specs.Chain.{meets, chainAfter}
+use Rattle.verdicts.specs.Walk.{unmet}
 use Rattle.area.specs.declared.place.Place.the-variants.{At, Nowhere}
 use Rattle.verdicts.specs.declared.chain.Ending.the-variants.{End, Broken, Again}
 use Rattle.area.proofs.Places.{place-found}
