@@ -19,7 +19,7 @@ use Rattle.report.specs.declared.answer.Reported.{Reported}
 use Rattle.report.specs.declared.answer.Reported.the-variants as reported
 
 -- a value, and no refusal
-unfoldable pub acceptedWord : ℕ → ℕ
+abbrev pub acceptedWord : ℕ → ℕ
 acceptedWord value = value * 4294967296
 
 -- a refusal's number and detail, and no value

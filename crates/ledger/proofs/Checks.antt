@@ -9,7 +9,7 @@ use Rattle.words.specs.Word.{part, flat, number, bytesOf, numberAt}
 use Rattle.words.specs.Run.{repeated, differenceFrom}
 use Rattle.words.specs.Age.{ageOf}
 use Rattle.tags.specs.Tag.{stateWord, tagOf, patternOf, patternWord}
-use Rattle.tags.specs.SizeCode.{codeOf, decodedOf}
+use Rattle.tags.specs.SizeCode.{decodedOf}
 use Rattle.chunks.specs.Chunk.{chunkOf, freeChunk, grantedChunk, tagAt}
 use Rattle.chunks.specs.Judge.{freeVerdict, allocatedVerdict, zoneVerdict, sizedVerdict}
 use Rattle.tags.specs.Verdict.{verdictNumber, verdictValue}
@@ -48,7 +48,7 @@ all-hold [] e = tt
 all-hold (c ∷ cs) e = let both = and-eq-true-iff _ _ .0 e in (holds c (both .0), all-hold cs (both .1))
 
 computed : all checks ≡ true
-unfolding checks freeWith allocatedWith freshAreas run put layOutPlan layOutOf laidAreas sheetBytes recordBytes flat linkTo part number bytesOf numberAt repeated differenceFrom tagOf patternOf patternWord codeOf decodedOf chunkOf freeChunk grantedChunk tagAt chunkVerdict freeVerdict allocatedVerdict zoneVerdict sizedVerdict ageOf stamped fieldIs shaped sheetOf measured numbered openedOf lawful sizesLawful basesLawful placeOf recordWord takenChunk takenHead takenOf allocatePlan grantedAreas allocateOf
+unfolding checks freeWith allocatedWith freshAreas run put layOutPlan layOutOf laidAreas sheetBytes recordBytes flat linkTo part number bytesOf numberAt repeated differenceFrom tagOf patternOf patternWord decodedOf chunkOf freeChunk grantedChunk tagAt chunkVerdict freeVerdict allocatedVerdict zoneVerdict sizedVerdict ageOf stamped fieldIs shaped sheetOf measured numbered openedOf lawful sizesLawful basesLawful placeOf recordWord takenChunk takenHead takenOf allocatePlan grantedAreas allocateOf
 computed = refl
 
 pub checks-hold : AllHold checks

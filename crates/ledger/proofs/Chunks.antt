@@ -201,11 +201,9 @@ module _ (size a : ℕ) (few : size ≤ 4096) (word : a < 4294967296) where
   whole-ends = filled-ends grantFill redzone state.Allocated (lit< tt)
 
   code-small : (s : ℕ) → s ≤ size → codeOf s < 4294967296
-  unfolding codeOf
   code-small s h = omega arith
 
   pub code-other : (s : ℕ) → s ≤ size → codeOf s ≢ redzone
-  unfolding codeOf
   code-other s h e = omega arith
 
   pub sized-ends : (s : ℕ) → s ≤ size

@@ -7,7 +7,7 @@ use lib.ListN.{replicate}
 use Rattle.words.specs.Word.{part, flat, number, bytesOf, numberAt}
 use Rattle.words.specs.Run.{repeated, differenceFrom}
 use Rattle.tags.specs.Tag.{tagOf, patternWord, patternOf}
-use Rattle.tags.specs.SizeCode.{codeOf, decodedOf}
+use Rattle.tags.specs.SizeCode.{decodedOf}
 use Rattle.chunks.specs.Chunk.{grantFill, chunkOf, freeChunk, grantedChunk, tagAt}
 use Rattle.chunks.specs.Judge.{freeVerdict, zoneVerdict, sizedVerdict, allocatedVerdict}
 use Rattle.chunks.specs.declared.chunk.Grant.the-variants as grant
@@ -66,7 +66,7 @@ record Evaluated : Type 0 where
   next : answer₀ calls₁ (allocate (grant.Sized 8) 4 7) ≡ allocated.At 4096
 
 evaluated : Evaluated
-unfolding areas₀ world₀ answer₀ calls₀ calls₁ run put layOutPlan layOutOf lawful sizesLawful basesLawful laidAreas sheetBytes recordBytes flat linkTo part number bytesOf numberAt repeated differenceFrom tagOf patternWord patternOf codeOf decodedOf chunkOf freeChunk grantedChunk tagAt freeVerdict zoneVerdict sizedVerdict allocatedVerdict stamped fieldIs shaped sheetOf measured numbered openedOf placeOf recordWord takenChunk takenHead takenOf allocatePlan grantedAreas allocateOf heldChunk heldAt heldOf freePlan freedAreas freeOf storePlan storedAreas storeOf
+unfolding areas₀ world₀ answer₀ calls₀ calls₁ run put layOutPlan layOutOf lawful sizesLawful basesLawful laidAreas sheetBytes recordBytes flat linkTo part number bytesOf numberAt repeated differenceFrom tagOf patternWord patternOf decodedOf chunkOf freeChunk grantedChunk tagAt freeVerdict zoneVerdict sizedVerdict allocatedVerdict stamped fieldIs shaped sheetOf measured numbered openedOf placeOf recordWord takenChunk takenHead takenOf allocatePlan grantedAreas allocateOf heldChunk heldAt heldOf freePlan freedAreas freeOf storePlan storedAreas storeOf
 evaluated = record {
   first = refl;
   second = refl;

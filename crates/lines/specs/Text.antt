@@ -42,7 +42,7 @@ labelled word n = word ++ fieldOf n "\n"
 -- ---- lines
 
 -- "A report's first line is always `heap report 1`."
-unfoldable pub headerOf : List ℕ
+abbrev pub headerOf : List ℕ
 headerOf = ascii "heap report 1\n"
 
 -- "for 25, 26 and 28, `I fault V OFFSET`"

@@ -60,7 +60,7 @@ tag-pattern a s = ap patternWord (tag-word a s) ∙ known s
 
 -- a code gives its size back
 pub decode-code : (s most : ℕ) → 1 ≤ s → s ≤ most → decodedOf (codeOf s) most ≡ Size s
-unfolding decodedOf codeOf
+unfolding decodedOf
 decode-code s most h k =
     let q : (251 * s + 1) / 251 ≡ s = omega arith in
     let r : (251 * s + 1) % 251 ≡ 1 = omega arith in

@@ -7,7 +7,7 @@ use Rattle.tags.specs.declared.size_code.Decoded.{Decoded}
 use Rattle.tags.specs.declared.size_code.Decoded.the-variants.{Size, Bad}
 
 -- "A grant of s bytes .. puts .. 251*s+1 in R1."
-unfoldable pub codeOf : ℕ → ℕ
+abbrev pub codeOf : ℕ → ℕ
 codeOf s = 251 * s + 1
 
 -- "27 unless R1 mod 251 is 1 and R1/251 is 1 to buffer size. Then s = R1/251"
