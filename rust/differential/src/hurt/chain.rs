@@ -2,6 +2,7 @@
 
 use reference::chain;
 
+use super::no_record;
 use crate::image::{put_word, word, HEAD_BODY, NEXT, RECORD_SIZE};
 use crate::{Image, Sequence};
 
@@ -35,19 +36,9 @@ pub fn cut(image: &mut Image, sequence: &mut Sequence) {
     put_next(image, record, 0);
 }
 
-/// The chain, or its head, leads to an address near the records, to a buffer, or
-/// anywhere.
+/// The chain, or its head, leads to an address where no record starts.
 pub fn leave_records(image: &mut Image, sequence: &mut Sequence) {
-    let shape = image.shape;
-    let any = sequence.word();
-    let target = sequence.pick(&[
-        any,
-        1,
-        u32::MAX,
-        shape.heap_base,
-        shape.record_base.wrapping_sub(RECORD_SIZE as u32),
-        shape.record_base.wrapping_add(shape.record_length() as u32),
-    ]);
+    let target = no_record(image.shape, sequence);
     lead_to(image, target, sequence);
 }
 

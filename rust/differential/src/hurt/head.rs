@@ -1,5 +1,6 @@
 //! The chain's first record and its buffer.
 
+use super::{no_buffer, no_record};
 use crate::image::{
     change_byte, put_word, word, ADDRESS, ALLOCATED_TAG, FREE_TAG, HEAD_BODY, RECORD_SIZE,
 };
@@ -16,21 +17,8 @@ fn first_buffer(image: &Image) -> Option<usize> {
     image.shape.buffer_at(word(&image.records, name))
 }
 
-/// The head is near the records, in one past its start, a buffer, or any word.
 pub fn leave_records(image: &mut Image, sequence: &mut Sequence) {
-    let shape = image.shape;
-    let any = sequence.word();
-    let inside = sequence.between(1, RECORD_SIZE - 1) as u32;
-    let record = shape.record_address(sequence.below(shape.count));
-    let head = sequence.pick(&[
-        any,
-        1,
-        u32::MAX,
-        record + inside,
-        shape.heap_base,
-        shape.record_base.wrapping_sub(RECORD_SIZE as u32),
-        shape.record_base.wrapping_add(shape.record_length() as u32),
-    ]);
+    let head = no_record(image.shape, sequence);
     put_word(&mut image.sheet, HEAD_BODY, head);
 }
 
@@ -42,18 +30,7 @@ fn put_name(image: &mut Image, address: u32) {
 }
 
 pub fn name_nothing(image: &mut Image, sequence: &mut Sequence) {
-    let shape = image.shape;
-    let step = shape.chunk_size() as u32;
-    let any = sequence.word();
-    let inside = sequence.between(1, shape.chunk_size() - 1) as u32;
-    let address = sequence.pick(&[
-        0,
-        any,
-        shape.heap_base + inside,
-        shape.heap_base.wrapping_sub(step),
-        shape.heap_base.wrapping_add(shape.heap_length() as u32),
-        shape.record_base,
-    ]);
+    let address = no_buffer(image.shape, sequence);
     put_name(image, address);
 }
 

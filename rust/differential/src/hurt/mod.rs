@@ -10,7 +10,8 @@ mod pairing;
 mod sheet;
 mod times;
 
-use crate::{Image, Sequence};
+use crate::image::RECORD_SIZE;
+use crate::{Image, Sequence, Shape};
 
 /// One way, with its name.
 pub type Hurt = (&'static str, fn(&mut Image, &mut Sequence));
@@ -85,6 +86,40 @@ pub const HEAD_HURTS: [Hurt; 11] = [
         head::mark_allocated_and_change_fill,
     ),
 ];
+
+/// An address where no record starts: near the records, in one past its start, a
+/// buffer's, or any word.
+fn no_record(shape: Shape, sequence: &mut Sequence) -> u32 {
+    let any = sequence.word();
+    let inside = sequence.between(1, RECORD_SIZE - 1) as u32;
+    let record = shape.record_address(sequence.below(shape.count));
+    sequence.pick(&[
+        any,
+        1,
+        u32::MAX,
+        record + inside,
+        shape.heap_base,
+        shape.record_base.wrapping_sub(RECORD_SIZE as u32),
+        shape.record_base.wrapping_add(shape.record_length() as u32),
+    ])
+}
+
+/// An address where no buffer starts: near the heap, in a chunk past its start, a
+/// record's, or any word.
+fn no_buffer(shape: Shape, sequence: &mut Sequence) -> u32 {
+    let step = shape.chunk_size() as u32;
+    let any = sequence.word();
+    let inside = sequence.between(1, shape.chunk_size() - 1) as u32;
+    sequence.pick(&[
+        0,
+        u32::MAX,
+        any,
+        shape.heap_base + inside,
+        shape.heap_base.wrapping_sub(step),
+        shape.heap_base.wrapping_add(shape.heap_length() as u32),
+        shape.record_base,
+    ])
+}
 
 /// Hurts an image in no way, one way or a few, and answers their names.
 pub fn hurt(image: &mut Image, sequence: &mut Sequence) -> Vec<&'static str> {

@@ -1,5 +1,6 @@
 //! Records that do not each name a buffer of their own.
 
+use super::no_buffer;
 use crate::image::{put_word, word, ADDRESS, RECORD_SIZE};
 use crate::{Image, Sequence};
 
@@ -20,19 +21,7 @@ pub fn name_twice(image: &mut Image, sequence: &mut Sequence) {
 
 /// A record names an address where no buffer starts.
 pub fn name_nothing(image: &mut Image, sequence: &mut Sequence) {
-    let shape = image.shape;
-    let step = shape.chunk_size() as u32;
-    let inside = sequence.between(1, shape.chunk_size() - 1) as u32;
-    let any = sequence.word();
-    let address = sequence.pick(&[
-        0,
-        u32::MAX,
-        any,
-        shape.heap_base.wrapping_sub(step),
-        shape.heap_base.wrapping_add(shape.heap_length() as u32),
-        shape.heap_base + inside,
-        shape.record_base,
-    ]);
+    let address = no_buffer(image.shape, sequence);
     let name = some_name(image, sequence);
     put_word(&mut image.records, name, address);
 }

@@ -3,9 +3,6 @@
 use crate::image::*;
 use reference::{allocate, lay_out, Grant, Refusal};
 
-const UPTIME: u32 = 0x1122_3344;
-const THREAD_WORD: u32 = 0x5566_7788;
-
 fn call(image: &mut Image, grant: Grant) -> Result<u32, Refusal> {
     allocate(
         &mut image.sheet,

@@ -3,9 +3,6 @@
 use crate::image::*;
 use reference::{free, Grant, Refusal};
 
-const UPTIME: u32 = 0x1122_3344;
-const THREAD_WORD: u32 = 0x5566_7788;
-
 fn call(image: &mut Image, address: u32, grant: Grant) -> Result<(), Refusal> {
     free(
         &mut image.sheet,
@@ -39,14 +36,6 @@ fn freed(old_head: u32) -> Image {
     put(&mut image.records, RECORD[1] + STAMP_HIGH, 0);
     put(&mut image.records, RECORD[1] + STAMP_LOW, UPTIME);
     put(&mut image.records, RECORD[1] + THREAD, THREAD_WORD);
-    image
-}
-
-/// The dump with buffer 1 granted by these redzone words.
-fn dump_with_redzone(r0: u32, r1: u32) -> Image {
-    let mut image = dump();
-    put(&mut image.heap, CHUNK[1] + R0, r0);
-    put(&mut image.heap, CHUNK[1] + R1, r1);
     image
 }
 

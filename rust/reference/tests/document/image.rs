@@ -28,6 +28,10 @@ pub const THREAD: usize = 24;
 /// Where the body of the chain head stands in a sheet.
 pub const HEAD: usize = 39;
 
+/// When a call is made, and by which thread.
+pub const UPTIME: u32 = 0x1122_3344;
+pub const THREAD_WORD: u32 = 0x5566_7788;
+
 #[rustfmt::skip]
 const DUMP_SHEET: [u8; 48] = [
     1, 0, 4, 0x70, 0x03, 0x99, 0x28,
@@ -82,6 +86,14 @@ pub fn dump() -> Image {
 pub fn dump_with_head(head: u32) -> Image {
     let mut image = dump();
     put(&mut image.sheet, HEAD, head);
+    image
+}
+
+/// The dump with buffer 1 granted by these redzone words.
+pub fn dump_with_redzone(r0: u32, r1: u32) -> Image {
+    let mut image = dump();
+    put(&mut image.heap, CHUNK[1] + R0, r0);
+    put(&mut image.heap, CHUNK[1] + R1, r1);
     image
 }
 

@@ -1,7 +1,7 @@
 //! Long lists of calls on a fresh heap, against a ledger kept from the calls'
 //! arguments and answers.
 
-use crate::image::Image;
+use crate::image::{refused, Image};
 use crate::inputs::Sequence;
 use reference::*;
 
@@ -62,13 +62,7 @@ impl Heap {
         } = &mut self.image;
         let answer = allocate(sheet, heap, records, grant, 1, 2);
         if self.out.iter().all(Option::is_some) {
-            assert_eq!(
-                answer,
-                Err(Refusal {
-                    number: 5,
-                    detail: 0
-                })
-            );
+            assert_eq!(answer, refused(5));
             return;
         }
         let distance = answer.unwrap() - HEAP_BASE;
@@ -93,21 +87,9 @@ impl Heap {
         } = &mut self.image;
         let answer = free(sheet, heap, records, address, grant, 3, 4);
         match &self.out[index] {
-            None => assert_eq!(
-                answer,
-                Err(Refusal {
-                    number: 8,
-                    detail: 0
-                })
-            ),
+            None => assert_eq!(answer, refused(8)),
             Some(out) if out.grant != grant => {
-                assert_eq!(
-                    answer,
-                    Err(Refusal {
-                        number: 9,
-                        detail: 0
-                    })
-                )
+                assert_eq!(answer, refused(9))
             }
             Some(_) => {
                 assert_eq!(answer, Ok(()));
@@ -125,21 +107,9 @@ impl Heap {
         } = &mut self.image;
         let answer = store(sheet, heap, records, address, offset as u32, bytes);
         match &mut self.out[index] {
-            None => assert_eq!(
-                answer,
-                Err(Refusal {
-                    number: 8,
-                    detail: 0
-                })
-            ),
+            None => assert_eq!(answer, refused(8)),
             Some(out) if offset + bytes.len() > out.client.len() => {
-                assert_eq!(
-                    answer,
-                    Err(Refusal {
-                        number: 10,
-                        detail: 0
-                    })
-                )
+                assert_eq!(answer, refused(10))
             }
             Some(out) => {
                 assert_eq!(answer, Ok(()));

@@ -18,14 +18,6 @@ fn shown(image: &Image, address: u32) -> Result<&[u8], Refusal> {
     show(&image.sheet, &image.heap, &image.records, address)
 }
 
-/// The dump with buffer 1 granted by these redzone words.
-fn dump_with_redzone(r0: u32, r1: u32) -> Image {
-    let mut image = dump();
-    put(&mut image.heap, CHUNK[1] + R0, r0);
-    put(&mut image.heap, CHUNK[1] + R1, r1);
-    image
-}
-
 /// Expects the same refusal of a store and a show, and every byte as before.
 fn both_refuse(mut image: Image, address: u32, number: u8, detail: u8) {
     let refusal = Refusal { number, detail };

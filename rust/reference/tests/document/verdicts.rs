@@ -28,10 +28,7 @@ fn dump_with_heap_word(at: usize, word: u32) -> Image {
 /// The verdict on the dump's buffer 1, of the allocated pattern, with these redzone
 /// words.
 fn allocated_with(r0: u32, r1: u32) -> (u32, u32) {
-    let mut image = dump();
-    put(&mut image.heap, CHUNK[1] + R0, r0);
-    put(&mut image.heap, CHUNK[1] + R1, r1);
-    verdicts(&image)[1]
+    verdicts(&dump_with_redzone(r0, r1))[1]
 }
 
 #[test]
@@ -261,29 +258,27 @@ fn client_that_stores_the_free_fill_is_still_allocated() {
     assert_eq!(verdicts(&image)[1], (2, 20));
 }
 
+/// What stands in a row that no call may touch.
+const KEPT: Finding = Finding {
+    index: 77,
+    verdict: Verdict::BadSizeCode,
+};
+
 #[test]
 fn rows_past_n_stay() {
     let image = dump();
-    let kept = Finding {
-        index: 77,
-        verdict: Verdict::BadSizeCode,
-    };
-    let mut rows = [kept; 5];
+    let mut rows = [KEPT; 5];
     let answer = inspect(&image.sheet, &image.heap, &image.records, &mut rows);
     assert_eq!(answer, Ok(3));
     assert_eq!(rows[..3], findings(&image));
-    assert_eq!(rows[3..], [kept; 2]);
+    assert_eq!(rows[3..], [KEPT; 2]);
 }
 
 #[test]
 fn refusal_11_rows_shorter_than_n() {
     let image = dump();
-    let kept = Finding {
-        index: 77,
-        verdict: Verdict::BadSizeCode,
-    };
-    let mut rows = [kept; 2];
+    let mut rows = [KEPT; 2];
     let answer = inspect(&image.sheet, &image.heap, &image.records, &mut rows);
     assert_eq!(answer, refused(11));
-    assert_eq!(rows, [kept; 2]);
+    assert_eq!(rows, [KEPT; 2]);
 }
