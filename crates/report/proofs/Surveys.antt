@@ -1,6 +1,5 @@
 -- What a survey into a row for 512 buffers tells the report, and that the report's text speaks only of the buffers there are. Assumes nothing.
 use mathlib.Core.Path.{_≡_, refl, sym, ap, _∙_}
-use mathlib.Core.Bool.{Bool, true, false}
 use mathlib.Core.List.{List}
 use Prim.Native.Nat.{ℕ, _+_, _*_, _≤_, _<_}
 use native.Mathlib.Nat.{mul-comm}
@@ -23,12 +22,11 @@ use Rattle.area.specs.declared.refusal.Refusal.{Refusal}
 use Rattle.area.specs.declared.refusal.Refusal.the-variants.{ShortOutput}
 use Rattle.opening.proofs.Sheets.{logged-law}
 use Rattle.image.proofs.Findings.{finding}
-use Rattle.lines.specs.Text.{textOf, lineOf, faultOf, rowNumber, rowValue, writtenOf, outputOf}
-use Rattle.report.specs.Answer.{reportText, Reporting, reportOf}
-use Rattle.report.specs.declared.answer.Reported.the-variants.{Length, Refused}
+use Rattle.lines.specs.Text.{textOf, lineOf, faultOf, rowNumber, rowValue}
+use Rattle.report.specs.Answer.{reportText, Reporting, reporting, reportOf}
+use Rattle.report.specs.declared.answer.Reported.the-variants.{Refused}
 use Rattle.opening.specs.declared.sheet.Opened.the-variants as opened
 use Rattle.image.specs.declared.inspect.Surveyed.the-variants as surveys
-use Rattle.lines.specs.declared.text.Written.the-variants as written
 
 -- ---- the text looks at the first n buffers only
 
@@ -75,11 +73,6 @@ survey-long s heap records l rows long = go (openedWithLog s (length heap) (leng
 
 -- ---- from a survey to the report
 
--- all of a text, or a refusal
-abbrev pub allOrNothing : List ℕ → List ℕ → Reporting
-allOrNothing t output =
-    pick (leb (length t) (length output)) (record { answer = Length (length t); output = sets output 0 t }) (record { answer = Refused ShortOutput; output = output })
-
 module _ (s heap records : List ℕ) (l : ℕ) (rows output : List ℕ) (long : 1536 ≤ length rows) where
   -- a survey that is refused refuses the report
   pub report-refused : (why : Refusal) → surveyOf s heap records l rows .answer ≡ surveys.Refused why
@@ -90,14 +83,14 @@ module _ (s heap records : List ℕ) (l : ℕ) (rows output : List ℕ) (long : 
     where
       go : (o : Opened) → surveyFrom o heap records rows .answer
           ≡ surveys.Refused why
-          → onOpened {A = Reporting} o (λ g. allOrNothing (reportText g heap records) output) (λ r. record { answer = Refused r; output = output })
+          → onOpened {A = Reporting} o (λ g. reporting (reportText g heap records) output) (λ r. record { answer = Refused r; output = output })
           ≡ record { answer = Refused why; output = output }
       go (opened.Image g) f = absurd (let z : _≡_ {A = ℕ} 0 1 = cc in omega arith)
       go (opened.Refused r) f = let z : r ≡ why = cc in rw z
 
   -- any other gives the text of its rows
   pub report-image : (o : Overview) (r : List ℕ) → surveyOf s heap records l rows .answer ≡ surveys.Image o → r ≡ surveyOf s heap records l rows .rows
-      → reportOf s heap records l output ≡ allOrNothing (textOf (rowNumber r) (rowValue r) (o .count) (o .met) (o .ending)) output
+      → reportOf s heap records l output ≡ reporting (textOf (rowNumber r) (rowValue r) (o .count) (o .met) (o .ending)) output
   unfolding reportOf
   report-image v r e q =
       go (openedWithLog s (length heap) (length records) l) refl
@@ -108,33 +101,13 @@ module _ (s heap records : List ℕ) (l : ℕ) (rows output : List ℕ) (long : 
           ≡ surveys.Image v
           → r
           ≡ surveyFrom o heap records rows .rows
-          → onOpened {A = Reporting} o (λ g. allOrNothing (reportText g heap records) output) (λ w. record { answer = Refused w; output = output })
-          ≡ allOrNothing (textOf (rowNumber r) (rowValue r) (v .count) (v .met) (v .ending)) output
+          → onOpened {A = Reporting} o (λ g. reporting (reportText g heap records) output) (λ w. record { answer = Refused w; output = output })
+          ≡ reporting (textOf (rowNumber r) (rowValue r) (v .count) (v .met) (v .ending)) output
       go (opened.Image g) p f k =
           let z : surveyed g records ≡ v = cc in
           let few = logged-law s (length heap) (length records) l g p .sizes .few in
-          ap (λ (t : List ℕ). allOrNothing t output)
+          ap (λ (t : List ℕ). reporting t output)
           (sym (rows-text g heap records rows (omega arith))
           ∙ ap (λ (x : List ℕ). textOf (rowNumber x) (rowValue x) (g .count) (length (imageChain g records .met)) (imageChain g records .ending)) (sym k)
           ∙ ap (λ (x : Overview). textOf (rowNumber r) (rowValue r) (x .count) (x .met) (x .ending)) z)
       go (opened.Refused w) p f k = absurd (let z : _≡_ {A = ℕ} 0 1 = cc in omega arith)
-
--- what the writer answers is what the report answers
-module _ (t output : List ℕ) where
-  pub written-short : writtenOf t output ≡ written.Short → allOrNothing t output ≡ record { answer = Refused ShortOutput; output = outputOf t output }
-  written-short e = go (leb (length t) (length output)) e
-    where
-      go : (b : Bool) → pick b (written.Length (length t)) written.Short ≡ written.Short
-          → _≡_ {A = Reporting} (pick b (record { answer = Length (length t); output = sets output 0 t }) (record { answer = Refused ShortOutput; output = output }))
-          (record { answer = Refused ShortOutput; output = pick b (sets output 0 t) output })
-      go true f = absurd (let z : _≡_ {A = ℕ} 0 1 = cc in omega arith)
-      go false f = refl
-
-  pub written-length : (n : ℕ) → writtenOf t output ≡ written.Length n → allOrNothing t output ≡ record { answer = Length n; output = outputOf t output }
-  written-length n e = go (leb (length t) (length output)) e
-    where
-      go : (b : Bool) → pick b (written.Length (length t)) written.Short ≡ written.Length n
-          → _≡_ {A = Reporting} (pick b (record { answer = Length (length t); output = sets output 0 t }) (record { answer = Refused ShortOutput; output = output }))
-          (record { answer = Length n; output = pick b (sets output 0 t) output })
-      go true f = let z : length t ≡ n = cc in ap (λ (k : ℕ). record { answer = Length k; output = sets output 0 t }) z
-      go false f = absurd (let z : _≡_ {A = ℕ} 0 1 = cc in omega arith)

@@ -1,10 +1,7 @@
 -- What the report call answers, and the output afterwards. Assumes nothing.
 use mathlib.Core.List.{List}
 use Prim.Native.Nat.{ℕ, _≤_}
-use lib.Dec.{leb}
 use lib.ListN.{length}
-use lib.Seq.{sets}
-use Rattle.words.specs.Run.{pick}
 use Rattle.tags.specs.Verdict.{verdictNumber, verdictValue}
 use Rattle.opening.specs.Sheet.{openedWithLog, onOpened}
 use Rattle.verdicts.specs.Judge.{verdictOf, imageChain}
@@ -27,13 +24,20 @@ pub record Reporting : Type 0 where
   pub answer : Reported
   pub output : List ℕ
 
--- "Inspect and report: 11", after 1, 2 and 3 with the log; "The call answers the length filled; output past it stays"
+-- "Inspect and report: 11": what is answered where a text was written, or had no room
+abbrev pub reportedBy : Written → Reported
+reportedBy (written.Length n) = Length n
+reportedBy written.Short = Refused ShortOutput
+
+-- a text is reported: all of it, or nothing
+abbrev pub reporting : List ℕ → List ℕ → Reporting
+reporting text output = record { answer = reportedBy (writtenOf text output); output = outputOf text output }
+
+-- the report's text, after the tests 1, 2 and 3 with the log
 unfoldable pub reportOf : List ℕ → List ℕ → List ℕ → ℕ → List ℕ → Reporting
 reportOf s heap records l output =
     onOpened (openedWithLog s (length heap) (length records) l)
-    (λ g. pick (leb (length (reportText g heap records)) (length output))
-    (record { answer = Length (length (reportText g heap records)); output = sets output 0 (reportText g heap records) })
-    (record { answer = Refused ShortOutput; output = output }))
+    (λ g. reporting (reportText g heap records) output)
     (λ why. record { answer = Refused why; output = output })
 
 -- what is known of the answer: the text fits an output of n bytes, and is not long

@@ -3,9 +3,9 @@ use mathlib.Core.Path.{sym, ap, _∙_, subst}
 use native.Mathlib.Omega.{arith}
 use borrow.Author.Needs.{needs}
 use lib.Dec.{lit≤}
-use Rattle.report.proofs.Surveys.{report-refused, report-image, written-short, written-length}
-use Rattle.report.specs.Answer.{Reporting}
-use Rattle.lines.specs.Text.{textOf, rowNumber, rowValue, WrittenIf}
+use Rattle.report.proofs.Surveys.{report-refused, report-image}
+use Rattle.report.specs.Answer.{Reporting, reportedBy}
+use Rattle.lines.specs.Text.{WrittenIf}
 use Rattle.image.specs.Inspect.{SurveyedIf}
 use Rattle.report.proofs.answer.report.Statement.{statement}
 use Rattle.report.proofs.answer.report.Tie as tie
@@ -50,9 +50,10 @@ returns-2 : tie.Need-returns-2
 returns-2 c =
     let s = c .before .before .before .before .before .before .before .before .before .before .before .survey in
     let w = c .before .before .before .before .write-report in
-    let i = report-image _ _ _ _ _ _ (lit≤ tt) _ _ (sym (s .ensures .0) ∙ c .before .before .before .before .before .before .before .before .surveyed2 .given .1) (s .ensures .1 .0) in
-    let e = i ∙ written-short (textOf (rowNumber (s .last .1 .1 .1 .1 .0)) (rowValue (s .last .1 .1 .1 .1 .0)) (c .before .before .before .before .before .before .before .before .surveyed2 .given .0 .0 .count) (c .before .before .before .before .before .before .before .before .surveyed2 .given .0 .0 .met) (c .before .before .before .before .before .before .before .before .surveyed2 .given .0 .0 .ending)) (c .before .before .before .before .before .before .before .before .before .before .before .before .before .before .before .before .before .before .args .output .now) (sym (w .ensures .0) ∙ c .enum-told .given .1) in
-    (ap (λ (x : Reporting). x .answer) (sym e), (w .ensures .1 .0 ∙ ap (λ (x : Reporting). x .output) (sym e), tt))
+    let e = report-image _ _ _ _ _ _ (lit≤ tt) _ _ (sym (s .ensures .0) ∙ c .before .before .before .before .before .before .before .before .surveyed2 .given .1) (s .ensures .1 .0) in (
+      sym (ap (λ (x : Reporting). x .answer) e ∙ ap reportedBy (sym (w .ensures .0) ∙ c .enum-told .given .1)),
+      (w .ensures .1 .0 ∙ ap (λ (x : Reporting). x .output) (sym e), tt),
+    )
 
 same-length-2 : tie.Need-same-length-2
 same-length-2 c = search needs
@@ -61,9 +62,10 @@ returns-3 : tie.Need-returns-3
 returns-3 c =
     let s = c .before .before .before .before .before .before .before .before .before .before .before .before .survey in
     let w = c .before .before .before .before .before .write-report in
-    let i = report-image _ _ _ _ _ _ (lit≤ tt) _ _ (sym (s .ensures .0) ∙ c .before .before .before .before .before .before .before .before .before .surveyed2 .given .1) (s .ensures .1 .0) in
-    let e = i ∙ written-length (textOf (rowNumber (s .last .1 .1 .1 .1 .0)) (rowValue (s .last .1 .1 .1 .1 .0)) (c .before .before .before .before .before .before .before .before .before .surveyed2 .given .0 .0 .count) (c .before .before .before .before .before .before .before .before .before .surveyed2 .given .0 .0 .met) (c .before .before .before .before .before .before .before .before .before .surveyed2 .given .0 .0 .ending)) (c .before .before .before .before .before .before .before .before .before .before .before .before .before .before .before .before .before .before .before .args .output .now) _ (sym (w .ensures .0) ∙ c .before .written .given .1) in
-    (ap (λ (x : Reporting). x .answer) (sym e), (w .ensures .1 .0 ∙ ap (λ (x : Reporting). x .output) (sym e), subst (WrittenIf _) (c .before .written .given .1) (w .ensures .1 .1)))
+    let e = report-image _ _ _ _ _ _ (lit≤ tt) _ _ (sym (s .ensures .0) ∙ c .before .before .before .before .before .before .before .before .before .surveyed2 .given .1) (s .ensures .1 .0) in (
+      sym (ap (λ (x : Reporting). x .answer) e ∙ ap reportedBy (sym (w .ensures .0) ∙ c .before .written .given .1)),
+      (w .ensures .1 .0 ∙ ap (λ (x : Reporting). x .output) (sym e), subst (WrittenIf _) (c .before .written .given .1) (w .ensures .1 .1)),
+    )
 
 pub report-spec : {M : Type 1} → statement M
 report-spec =
