@@ -34,19 +34,28 @@ abbrev pub filled : (ℕ → Finding) → List Finding → ℕ → List Finding
 filled f rows zero = rows
 filled f rows (suc i) = set (filled f rows i) i (f i)
 
--- what inspect answers, and the lent row afterwards
-pub record Inspection : Type 0 where
-  pub answer : Inspected
-  pub rows : List Finding
+-- what a call answers that fills a lent row, and the row afterwards
+pub record Filling (A B : Type 0) : Type 0 where
+  pub answer : A
+  pub rows : List B
 
--- "Inspect and report: 11", "output shorter than the exact need": a finding for each buffer
+-- a refused call leaves the row
+abbrev pub unfilled : {A B : Type 0} → A → List B → Filling A B
+unfilled answer rows = record { answer = answer; rows = rows }
+
+-- "Inspect and report: 11", "output shorter than the exact need"
+abbrev pub ifRoom : {A B : Type 0} → ℕ → List B → Filling A B → A → Filling A B
+ifRoom need rows full short = pick (leb need (length rows)) full (unfilled short rows)
+
+-- the need is a finding for each buffer
+abbrev pub Inspection : Type 0
+Inspection = Filling Inspected Finding
+
 unfoldable pub inspectOf : List ℕ → List ℕ → List ℕ → List Finding → Inspection
 inspectOf s heap records rows =
     onOpened (openedOf s (length heap) (length records))
-    (λ g. pick (leb (g .count) (length rows))
-    (record { answer = Count (g .count); rows = filled (findingOf g heap records) rows (g .count) })
-    (record { answer = Refused ShortOutput; rows = rows }))
-    (λ why. record { answer = Refused why; rows = rows })
+    (λ g. ifRoom (g .count) rows (record { answer = Count (g .count); rows = filled (findingOf g heap records) rows (g .count) }) (Refused ShortOutput))
+    (λ why. unfilled (Refused why) rows)
 
 -- ---- the findings as numbers
 
@@ -62,19 +71,12 @@ rowsOf f n = flat n (λ i. numbersOf (f i))
 unfoldable pub tableOf : Sheet → List ℕ → List ℕ → List ℕ
 tableOf g heap records = rowsOf (findingOf g heap records) (g .count)
 
--- what tabulate answers, and the lent row afterwards
-pub record Tabulation : Type 0 where
-  pub answer : Inspected
-  pub rows : List ℕ
-
 -- the same tests as inspect has; the exact need is three numbers for each buffer
-unfoldable pub tabulateOf : List ℕ → List ℕ → List ℕ → List ℕ → Tabulation
+unfoldable pub tabulateOf : List ℕ → List ℕ → List ℕ → List ℕ → Filling Inspected ℕ
 tabulateOf s heap records rows =
     onOpened (openedOf s (length heap) (length records))
-    (λ g. pick (leb (g .count * 3) (length rows))
-    (record { answer = Count (g .count); rows = sets rows 0 (tableOf g heap records) })
-    (record { answer = Refused ShortOutput; rows = rows }))
-    (λ why. record { answer = Refused why; rows = rows })
+    (λ g. ifRoom (g .count * 3) rows (record { answer = Count (g .count); rows = sets rows 0 (tableOf g heap records) }) (Refused ShortOutput))
+    (λ why. unfilled (Refused why) rows)
 
 -- what is known of the answer: a count is small
 abbrev pub InspectedIf : Inspected → Type 0
@@ -85,18 +87,15 @@ InspectedIf (Refused why) = Unit {0}
 abbrev pub surveyed : Sheet → List ℕ → Overview
 surveyed g records = record { count = g .count; met = length (imageChain g records .met); ending = imageChain g records .ending }
 
-pub record Surveying : Type 0 where
-  pub answer : Surveyed
-  pub rows : List ℕ
+abbrev pub Surveying : Type 0
+Surveying = Filling Surveyed ℕ
 
 -- the same tests and the same rows as tabulate has, of an image with a log of l bytes
 unfoldable pub surveyOf : List ℕ → List ℕ → List ℕ → ℕ → List ℕ → Surveying
 surveyOf s heap records l rows =
     onOpened (openedWithLog s (length heap) (length records) l)
-    (λ g. pick (leb (g .count * 3) (length rows))
-    (record { answer = surveys.Image (surveyed g records); rows = sets rows 0 (tableOf g heap records) })
-    (record { answer = surveys.Refused ShortOutput; rows = rows }))
-    (λ why. record { answer = surveys.Refused why; rows = rows })
+    (λ g. ifRoom (g .count * 3) rows (record { answer = surveys.Image (surveyed g records); rows = sets rows 0 (tableOf g heap records) }) (surveys.Refused ShortOutput))
+    (λ why. unfilled (surveys.Refused why) rows)
 
 -- what is known of a survey: its numbers are small
 abbrev pub EndingIf : ℕ → Ending → Type 0

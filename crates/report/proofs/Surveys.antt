@@ -5,16 +5,14 @@ use Prim.Native.Nat.{ℕ, _+_, _*_, _≤_, _<_}
 use native.Mathlib.Nat.{mul-comm}
 use native.Mathlib.Omega.{arith}
 use borrow.Author.Tests.{le-leb}
-use lib.Dec.{leb}
 use lib.ListN.{length, getD}
 use lib.Seq.{sets}
-use Rattle.words.specs.Run.{pick}
 use Rattle.words.proofs.Parts.{flat-same}
 use Rattle.words.proofs.Sums.{total-same}
 use Rattle.tags.specs.Verdict.{verdictNumber, verdictValue}
 use Rattle.opening.specs.Sheet.{openedWithLog, onOpened}
 use Rattle.verdicts.specs.Judge.{verdictOf, imageChain}
-use Rattle.image.specs.Inspect.{tableOf, surveyed, Surveying, surveyOf}
+use Rattle.image.specs.Inspect.{tableOf, unfilled, ifRoom, surveyed, Surveying, surveyOf}
 use Rattle.opening.specs.declared.sheet.Sheet.{Sheet}
 use Rattle.opening.specs.declared.sheet.Opened.{Opened}
 use Rattle.image.specs.declared.inspect.Overview.{Overview}
@@ -52,7 +50,7 @@ rows-text g heap records rows room =
 -- what a survey tells of an image that is open, or not
 abbrev pub surveyFrom : Opened → List ℕ → List ℕ → List ℕ → Surveying
 surveyFrom (opened.Image g) heap records rows = record { answer = surveys.Image (surveyed g records); rows = sets rows 0 (tableOf g heap records) }
-surveyFrom (opened.Refused why) heap records rows = record { answer = surveys.Refused why; rows = rows }
+surveyFrom (opened.Refused why) heap records rows = unfilled (surveys.Refused why) rows
 
 pub survey-long : (s heap records : List ℕ) (l : ℕ) (rows : List ℕ) → 1536 ≤ length rows
     → surveyOf s heap records l rows ≡ surveyFrom (openedWithLog s (length heap) (length records) l) heap records rows
@@ -61,10 +59,8 @@ survey-long s heap records l rows long = go (openedWithLog s (length heap) (leng
   where
     go : (o : Opened) → openedWithLog s (length heap) (length records) l ≡ o
         → onOpened {A = Surveying} o
-        (λ g. pick (leb (g .count * 3) (length rows))
-        (record { answer = surveys.Image (surveyed g records); rows = sets rows 0 (tableOf g heap records) })
-        (record { answer = surveys.Refused ShortOutput; rows = rows }))
-        (λ why. record { answer = surveys.Refused why; rows = rows })
+        (λ g. ifRoom (g .count * 3) rows (record { answer = surveys.Image (surveyed g records); rows = sets rows 0 (tableOf g heap records) }) (surveys.Refused ShortOutput))
+        (λ why. unfilled (surveys.Refused why) rows)
         ≡ surveyFrom o heap records rows
     go (opened.Image g) e =
         let few = logged-law s (length heap) (length records) l g e .sizes .few in
