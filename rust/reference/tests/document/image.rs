@@ -65,6 +65,10 @@ const DUMP_RECORDS: [u32; 72] = [
     0x106, 0, 0, 0, 0, 0, 0, 0, 0, 0, 0, 0, 0, 0,
 ];
 
+/// "Whole report, 64 bytes."
+pub const DUMP_REPORT: &str =
+    "heap report 1\n0 free\n1 allocated 20\n2 free\nchain 2 end\nfaults 0\n";
+
 /// The three areas of one image.
 #[derive(Clone, PartialEq, Debug)]
 pub struct Image {

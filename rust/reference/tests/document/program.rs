@@ -5,10 +5,8 @@ use std::io::Write;
 use std::process::{Command, Stdio};
 use std::thread;
 
-use crate::image::{dump, put, refused};
+use crate::image::{dump, put, refused, DUMP_REPORT};
 use reference::area_lengths;
-
-const DUMP_REPORT: &str = "heap report 1\n0 free\n1 allocated 20\n2 free\nchain 2 end\nfaults 0\n";
 
 /// Far more than a pipe holds and the program may read.
 const MUCH: usize = 1 << 22;

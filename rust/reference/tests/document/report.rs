@@ -3,8 +3,6 @@
 use crate::image::*;
 use reference::{lay_out, report};
 
-const DUMP_REPORT: &str = "heap report 1\n0 free\n1 allocated 20\n2 free\nchain 2 end\nfaults 0\n";
-
 fn text(image: &Image) -> String {
     let mut output = [0; 16_384];
     let length = report(&image.sheet, &image.heap, &image.records, &[], &mut output).unwrap();
