@@ -4,9 +4,10 @@
  *
  * An image is four areas of bytes: sheet, heap, records and log. The calls need no log
  * and write none. Any bytes of any length may be lent; an image that breaks the rules
- * is refused, with a number that says which rule. Each area is a pointer and then a length, counted in elements. No
- * pointer may be null, even with length 0. What a call writes to must be lent to that
- * call alone and overlap no other area. No call keeps what it was lent.
+ * is refused, with a number that says which rule. Each area is a pointer and then a
+ * length, counted in elements. No pointer may be null, even with length 0. What a call
+ * writes to must be lent to that call alone and overlap no other area. No call keeps
+ * what it was lent.
  *
  * Every function answers one number:
  *
