@@ -1,20 +1,19 @@
 -- "Allocate (size or whole, uptime, thread) takes the head record, answers its buffer's address, and the head becomes its next word." Assumes nothing.
 use mathlib.Core.Path.{_≡_}
-use mathlib.Core.Bool.{Bool, true, _&&_}
+use mathlib.Core.Bool.{true}
 use mathlib.Core.List.{List}
 use Prim.Native.Nat.{ℕ, _*_}
-use lib.Dec.{eqb, leb}
+use lib.Dec.{eqb}
 use lib.ListN.{length}
 use lib.Seq.{sets}
 use Rattle.words.specs.Run.{pick}
 use Rattle.tags.specs.Tag.{patternOf}
-use Rattle.chunks.specs.Chunk.{tagAt, grantedChunk, LawfulGrant}
+use Rattle.chunks.specs.Chunk.{tagAt, grantedChunk, lawfulSize}
 use Rattle.chunks.specs.Judge.{freeVerdict}
-use Rattle.tags.specs.Verdict.{verdictNumber}
+use Rattle.tags.specs.Verdict.{verdictNumber, isFoundFree}
 use Rattle.tags.specs.declared.tag.Pattern.{Pattern}
 use Rattle.tags.specs.declared.tag.Pattern.the-variants as pattern
 use Rattle.chunks.specs.declared.chunk.Grant.{Grant}
-use Rattle.chunks.specs.declared.chunk.Grant.the-variants.{Whole, Sized}
 use Rattle.tags.specs.declared.verdict.Verdict.{Verdict}
 use Rattle.tags.specs.declared.verdict.Verdict.the-variants as verdict
 use Rattle.opening.specs.Areas.{Areas, Ready, Result, refusedWith, withHead, bufferAddress, chunkAt}
@@ -29,14 +28,9 @@ use Rattle.allocation.specs.declared.allocate.AllocatePlan.the-variants.
 use Rattle.allocation.specs.declared.allocate.Allocated.{Allocated}
 use Rattle.allocation.specs.declared.allocate.Allocated.the-variants as allocated
 
--- "6: size 0 or above buffer size" does not fit
-abbrev pub lawfulSize : Grant → ℕ → Bool
-lawfulSize Whole size = true
-lawfulSize (Sized s) size = leb 1 s && leb s size
-
 -- "fill (25), redzone (26)": "Found free is verdict 0", and then the buffer is taken; any other verdict refuses
 abbrev pub ifFree : Verdict → Spot → AllocatePlan
-ifFree v p = pick (eqb (verdictNumber v) 0) (Take p) (Refused (Damage v))
+ifFree v p = pick (isFoundFree (verdictNumber v)) (Take p) (Refused (Damage v))
 
 -- "neither pattern (21), allocated pattern (24)", then the free chunk's own bytes
 abbrev pub takenBy : Pattern → List ℕ → Spot → AllocatePlan
@@ -59,7 +53,7 @@ takenHead g heap records =
 -- "Allocate: 6, 5, then 7"
 unfoldable pub takenOf : Sheet → List ℕ → List ℕ → Grant → AllocatePlan
 takenOf g heap records q =
-    pick (lawfulSize q (g .size)) (pick (eqb (g .head) 0) (Refused NoRoom) (takenHead g heap records)) (Refused BadSize)
+    pick (lawfulSize (g .size) q) (pick (eqb (g .head) 0) (Refused NoRoom) (takenHead g heap records)) (Refused BadSize)
 
 unfoldable pub allocatePlan : Areas → Grant → AllocatePlan
 allocatePlan a q = onOpened (openedOf (a .sheet) (length (a .heap)) (length (a .records))) (λ g. takenOf g (a .heap) (a .records) q) Refused
@@ -83,7 +77,7 @@ allocateOf a q uptime thread = allocateBy a q uptime thread (allocatePlan a q)
 
 pub record Takes (s h r : ℕ) (q : Grant) (p : Spot) : Type 0 where
   pub ready : Ready s h r (p .sheet) (p .buffer) (p .own)
-  pub granted : LawfulGrant (p .sheet .size) q
+  pub granted : lawfulSize (p .sheet .size) q ≡ true
 
 abbrev pub TakenIf : ℕ → ℕ → ℕ → Grant → AllocatePlan → Type 0
 TakenIf s h r q (Take p) = Takes s h r q p

@@ -1,11 +1,12 @@
 // Allocate: a plan that only reads, and a commit that cannot fail.
 ghost use mathlib.Core.Path.{_≡_};
+ghost use mathlib.Core.Bool.{true};
 ghost use Prim.Native.Nat.{_*_, _<_};
 ghost use lib.ListN.{length};
-ghost use Rattle.chunks.specs.Chunk.{LawfulGrant};
+ghost use Rattle.chunks.specs.Chunk.{lawfulSize};
 ghost use Rattle.opening.specs.Areas.{areas};
 ghost use Rattle.opening.specs.Sheet.{Lawful, Open};
-ghost use Rattle.allocation.specs.Allocate.{lawfulSize, ifFree, takenChunk, takenHead, takenOf, SpotIf, allocatePlan, TakenIf, Takes, grantedAreas, allocateOf};
+ghost use Rattle.allocation.specs.Allocate.{ifFree, takenChunk, takenHead, takenOf, SpotIf, allocatePlan, TakenIf, Takes, grantedAreas, allocateOf};
 use area::place;
 use area::place::Place;
 use area::record;
@@ -42,7 +43,7 @@ pub enum Allocated {
 
 // Whether a request is of lawful size.
 fn lawful_size(grant: Grant, size: usize) -> bool
-    ensures { λ r. ⌜ r ≡ lawfulSize grant size ⌝ }
+    ensures { λ r. ⌜ r ≡ lawfulSize size grant ⌝ }
 {
     match grant {
         Grant::Whole => true,
@@ -88,7 +89,7 @@ fn take_chunk(chunk: &[u8], p: Spot) -> AllocatePlan
 // The step before it: the head must be a record's address, and that record's word a buffer's.
 fn take_head(heap: &[u8], records: &[u8], g: Sheet, grant: Grant) -> AllocatePlan
     requires { ⌜ Open (length (now heap)) (length (now records)) g ⌝ }
-    requires { ⌜ LawfulGrant (g .size) grant ⌝ }
+    requires { ⌜ lawfulSize (g .size) grant ≡ true ⌝ }
     ensures { λ r. ⌜ r ≡ takenHead g (now (heap .entry)) (now (records .entry)) ⌝ }
     ensures { λ r. ⌜ TakenIf 48 (length (now (heap .entry))) (length (now (records .entry))) grant r ⌝ }
 {

@@ -5,7 +5,8 @@ use Prim.Native.Nat.{ℕ, _+_, _-_, _*_}
 use native.Mathlib.Omega.{arith}
 use lib.Seq.{sets}
 use Rattle.words.specs.Word.{bytesOf, numberAt}
-use Rattle.words.proofs.Parts.{sets-three}
+use Rattle.words.proofs.Parts.{sets-next}
+use Rattle.words.proofs.Numbers.{length-bytesOf}
 use Rattle.area.specs.Record.{stamped, recordSize, recordWord, stampHighAt, stampLowAt, threadAt}
 use Rattle.area.specs.Place.{placeAddress}
 
@@ -16,13 +17,12 @@ record-at l base address j offset e =
     let o : address - base ≡ j * recordSize + offset = omega arith in
     ap (numberAt 4 l) o
 
--- the stamp and the thread of record j: three words in a row
+-- the stamp of record j, two words in a row, and its thread
 pub stamped-run : (l a b c : List ℕ) (j uptime thread : ℕ)
     → a ≡ sets l (j * recordSize + stampHighAt) (bytesOf 4 0)
     → b ≡ sets a (j * recordSize + stampLowAt) (bytesOf 4 uptime)
     → c ≡ sets b (j * recordSize + threadAt) (bytesOf 4 thread)
     → c ≡ stamped l j uptime thread
-unfolding stamped bytesOf
+unfolding stamped
 stamped-run l a b c j uptime thread ea eb ec =
-    sets-three l (bytesOf 4 0) (bytesOf 4 uptime) (bytesOf 4 thread) (j * recordSize + stampHighAt) (j * recordSize + stampLowAt) (j * recordSize + threadAt)
-    (omega arith) (omega arith) ea eb ec
+    rw (ec, sets-next l (bytesOf 4 0) (bytesOf 4 uptime) (j * recordSize + stampHighAt) 4 (j * recordSize + stampLowAt) ea (length-bytesOf 4 0) (omega arith) eb)

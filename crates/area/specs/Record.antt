@@ -36,4 +36,5 @@ addressWord records j = recordWord records j bufferAt
 
 -- "Both write timestamp (high four bytes 0, low four the uptime) and thread in the record.", in record j
 unfoldable pub stamped : List ℕ → ℕ → ℕ → ℕ → List ℕ
-stamped records j uptime thread = sets records (j * recordSize + stampHighAt) (bytesOf 4 0 ++ bytesOf 4 uptime ++ bytesOf 4 thread)
+stamped records j uptime thread =
+    sets (sets records (j * recordSize + stampHighAt) (bytesOf 4 0 ++ bytesOf 4 uptime)) (j * recordSize + threadAt) (bytesOf 4 thread)

@@ -1,10 +1,11 @@
 -- The laws of chunks, and what the steps of the code come to. Assumes nothing.
 use mathlib.Core.Path.{_≡_, refl, ap, _∙_}
-use mathlib.Core.Bool.{Bool, true, false}
+use mathlib.Core.Bool.{Bool, true, false, and-eq-true-iff}
 use mathlib.Core.List.{List, _++_}
 use Prim.Native.Nat.{ℕ, _+_, _-_, _≤_}
 use native.Mathlib.Omega.{arith}
-use lib.Dec.{eqb}
+use borrow.Author.Tests.{le-leb, leb-true}
+use lib.Dec.{eqb, leb}
 use lib.ListN.{length, getD, set, length-append, length-set}
 use lib.Seq.{sets}
 use Rattle.words.specs.Word.{part, bytesOf}
@@ -16,7 +17,7 @@ use Rattle.words.proofs.Parts.{sets-next, sets-whole}
 use Rattle.words.proofs.Runs.{length-repeated, repeated-once}
 use Rattle.tags.specs.SizeCode.{decodedOf}
 use Rattle.tags.proofs.Tags.{decoded-within}
-use Rattle.chunks.specs.Chunk.{redzone, guard, bufferSize, chunkOf, freeChunk, grantedChunk, LawfulGrant, grantSize}
+use Rattle.chunks.specs.Chunk.{redzone, guard, bufferSize, chunkOf, freeChunk, grantedChunk, lawfulSize, grantSize}
 use Rattle.chunks.specs.Judge.{ifDiffers, r1Of, ofCode, zoneAfter, zoneVerdict, sizedVerdict, allocatedVerdict}
 use Rattle.tags.specs.declared.size_code.Decoded.{Decoded}
 use Rattle.tags.specs.declared.size_code.Decoded.the-variants.{Size, Bad}
@@ -56,10 +57,19 @@ unfolding grantedChunk
 length-grantedChunk size a grant.Whole = simp (length-chunkOf, length-repeated)
 length-grantedChunk size a (grant.Sized s) = simp (length-set, length-chunkOf, length-repeated)
 
+-- a size is lawful exactly where it is one of the buffer's
+pub lawful-within : (size s : ℕ) (q : Grant) → q ≡ grant.Sized s → lawfulSize size q ≡ true → (1 ≤ s) × (s ≤ size)
+lawful-within size s q e l =
+    let both = and-eq-true-iff (leb 1 s) (leb s size) .0 (rw e at l) in
+    (leb-true 1 s (both .0), leb-true s size (both .1))
+
+pub within-lawful : (size s : ℕ) → 1 ≤ s → s ≤ size → lawfulSize size (grant.Sized s) ≡ true
+within-lawful size s least most = rw (le-leb 1 s, le-leb s size)
+
 -- a lawful grant lies in the buffer
-pub grant-within : (size : ℕ) (q : Grant) → LawfulGrant size q → grantSize size q ≤ size
+pub grant-within : (size : ℕ) (q : Grant) → lawfulSize size q ≡ true → grantSize size q ≤ size
 grant-within size grant.Whole l = omega arith
-grant-within size (grant.Sized s) l = l .1
+grant-within size (grant.Sized s) l = lawful-within size s (grant.Sized s) refl l .1
 
 -- ---- a chunk is judged
 
@@ -73,11 +83,6 @@ pub zone-sound : (c : List ℕ) (w : ℕ) (v : Verdict) (d : Difference) → d �
     → v ≡ zoneVerdict c (bytesOf 4 w) v
 unfolding zoneVerdict
 zone-sound c w v d e g = rw (← repeated-once w, ← e, g)
-
--- R0 after a grant of the whole buffer's size
-pub guarded-zone : bytesOf 4 0xbbedface ≡ set (bytesOf 4 redzone) 0 guard
-unfolding bytesOf
-guarded-zone = refl
 
 -- a verdict of so many bytes allocated is one of the buffer's sizes
 zone-within : (c zone : List ℕ) (v : Verdict) (s : ℕ) → zoneVerdict c zone v ≡ Allocated s → v ≡ Allocated s

@@ -1,7 +1,9 @@
 -- "A chunk": its parts, and its bytes when it is free and when it is granted. Assumes nothing.
 use mathlib.Core.Path.{_≡_}
+use mathlib.Core.Bool.{Bool, true, _&&_}
 use mathlib.Core.List.{List, _++_}
 use Prim.Native.Nat.{ℕ, _+_, _-_, _%_, _≤_}
+use lib.Dec.{leb}
 use lib.ListN.{length, set}
 use Rattle.words.specs.Word.{numberAt, bytesOf}
 use Rattle.words.specs.Run.{repeated}
@@ -39,10 +41,10 @@ bufferSize c = length c - 16
 unfoldable pub chunkOf : List ℕ → ℕ → ℕ → ℕ → ℕ → List ℕ
 chunkOf buffer r0 r1 t0 t1 = buffer ++ bytesOf 4 r0 ++ bytesOf 4 r1 ++ bytesOf 4 t0 ++ bytesOf 4 t1
 
--- "A grant of s bytes, 1 to buffer size"
-abbrev pub LawfulGrant : ℕ → Grant → Type 0
-LawfulGrant size Whole = Unit {0}
-LawfulGrant size (Sized s) = (1 ≤ s) × (s ≤ size)
+-- "A grant of s bytes, 1 to buffer size": a request that "6: size 0 or above buffer size" does not fit
+abbrev pub lawfulSize : ℕ → Grant → Bool
+lawfulSize size Whole = true
+lawfulSize size (Sized s) = leb 1 s && leb s size
 
 -- "the first s, or all when whole": the client's bytes in a buffer of `size` bytes
 abbrev pub grantSize : ℕ → Grant → ℕ

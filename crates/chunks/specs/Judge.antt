@@ -11,10 +11,8 @@ use Rattle.chunks.specs.Chunk.{redzone, freeFill, guard, bufferSize}
 use Rattle.tags.specs.SizeCode.{decodedOf}
 use Rattle.tags.specs.declared.size_code.Decoded.{Decoded}
 use Rattle.tags.specs.declared.size_code.Decoded.the-variants as decoded
-use Rattle.tags.specs.declared.tag.Pattern.{Pattern}
-use Rattle.tags.specs.declared.tag.Pattern.the-variants as pattern
 use Rattle.tags.specs.declared.verdict.Verdict.{Verdict}
-use Rattle.tags.specs.declared.verdict.Verdict.the-variants.{Free, Whole, Allocated, BadTag, BadFill, BadRedzone, BadSizeCode, Overrun}
+use Rattle.tags.specs.declared.verdict.Verdict.the-variants.{Free, Whole, Allocated, BadFill, BadRedzone, BadSizeCode, Overrun}
 
 -- where two runs differ, the verdict of that place; else another
 abbrev pub ifDiffers : Difference → (ℕ → Verdict) → Verdict → Verdict
@@ -54,9 +52,3 @@ ofCode decoded.Bad f = BadSizeCode
 unfoldable pub allocatedVerdict : List ℕ → Verdict
 allocatedVerdict c =
     pick (eqb (r1Of c) redzone) (zoneVerdict c (bytesOf 4 redzone) Whole) (ofCode (decodedOf (r1Of c) (bufferSize c)) (sizedVerdict c))
-
--- "21: .. the xor is neither pattern", then the rules of the pattern
-abbrev pub ofPattern : Pattern → List ℕ → Verdict
-ofPattern pattern.Neither c = BadTag
-ofPattern pattern.Free c = freeVerdict c
-ofPattern pattern.Allocated c = allocatedVerdict c

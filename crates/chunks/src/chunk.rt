@@ -1,9 +1,10 @@
 // The bytes of a chunk: the buffer, the redzone words R0 and R1, and the tag.
 ghost use mathlib.Core.Path.{_≡_};
+ghost use mathlib.Core.Bool.{true};
 ghost use Prim.Native.Nat.{_-_};
 ghost use lib.ListN.{length};
 ghost use Rattle.words.specs.Run.{repeated};
-ghost use Rattle.chunks.specs.Chunk.{ChunkLength, LawfulGrant, redzone, chunkOf, bufferSize, freeChunk, grantedChunk, tagAt};
+ghost use Rattle.chunks.specs.Chunk.{ChunkLength, lawfulSize, redzone, chunkOf, bufferSize, freeChunk, grantedChunk, tagAt};
 use tags::size_code;
 use tags::tag::State;
 use tags::tag::Tag;
@@ -48,7 +49,7 @@ pub fn write_free(chunk: &mut [u8], record_at: u32)
 // Writes the chunk of a granted buffer whose record is at an address.
 pub fn write_granted(chunk: &mut [u8], record_at: u32, grant: Grant)
     requires { ⌜ ChunkLength (length (now chunk)) ⌝ }
-    requires { ⌜ LawfulGrant (bufferSize (now chunk)) grant ⌝ }
+    requires { ⌜ lawfulSize (bufferSize (now chunk)) grant ≡ true ⌝ }
     ensures { λ _. ⌜ now (chunk .exit) ≡ grantedChunk (bufferSize (now (chunk .entry))) «record_at» grant ⌝ }
 {
     let tag = Tag::new(record_at, State::Allocated);
@@ -57,7 +58,7 @@ pub fn write_granted(chunk: &mut [u8], record_at: u32, grant: Grant)
             write(chunk, GRANT_FILL, REDZONE, tag);
         }
         Grant::Sized(s) => {
-            write(chunk, GRANT_FILL, size_code::encode(s), tag);
+            write(chunk, GRANT_FILL, size_code::encode(s as u16), tag);
             let i = s as usize;
             chunk[i] = GUARD;
         }

@@ -13,9 +13,6 @@ use words::run;
 use words::run::Difference;
 use words::word;
 
-// R0 after a grant of the whole buffer's size: the guard byte stands on its first byte.
-const GUARDED_REDZONE: u32 = 0xbbedface;
-
 // The verdict on a chunk of the free pattern.
 pub fn judge_free(chunk: &[u8]) -> Verdict
     requires { ⌜ ChunkLength (length (now chunk)) ⌝ }
@@ -46,7 +43,8 @@ fn judge_zone(chunk: &[u8], zone: u32, sound: Verdict) -> Verdict
     }
 }
 
-// The verdict on a chunk of the allocated pattern whose R1 is the code of s bytes.
+// The verdict on a chunk of the allocated pattern whose R1 is the code of s bytes. After a grant of the whole buffer's size the
+// guard byte stands on R0's first byte.
 fn judge_sized(chunk: &[u8], s: u32) -> Verdict
     requires { ⌜ ChunkLength (length (now chunk)) ⌝ }
     requires { ⌜ s ≤ bufferSize (now chunk) ⌝ }
@@ -57,7 +55,8 @@ fn judge_sized(chunk: &[u8], s: u32) -> Verdict
         return Verdict::Overrun(s);
     }
     if i == chunk.len() - 16 {
-        return judge_zone(chunk, GUARDED_REDZONE, Verdict::Allocated(s));
+        let zone = word::with_first(chunk::REDZONE, chunk::GUARD);
+        return judge_zone(chunk, zone, Verdict::Allocated(s));
     }
     judge_zone(chunk, chunk::REDZONE, Verdict::Allocated(s))
 }

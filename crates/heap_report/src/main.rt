@@ -2,11 +2,15 @@
 // It reads no more than decides the answer: a sheet that is refused ends it, and of the log one byte more than is lawful.
 ghost use Prim.Native.Nat.{_≤_};
 ghost use lib.ListN.{length};
+use area::refusal::Refusal;
 use libc::STDIN_FILENO;
 use libc::STDOUT_FILENO;
+use lines::text;
+use lines::text::Written;
 use opening::sheet;
 use opening::sheet::Lengths;
 use report::answer;
+use report::answer::Reported;
 
 // Writes the first n bytes of a text to standard output.
 fn write_out(text: &[u8], n: usize)
@@ -23,11 +27,23 @@ fn read_in(space: &mut [u8], n: usize) -> usize
     io::read_full(STDIN_FILENO, &mut space[..n])
 }
 
-// Writes the answer to what was read.
+// Writes the line of a refusal, for which there is room.
+fn tell_refusal(why: Refusal) {
+    let mut line = [0u8; 16];
+    let written = text::write_refusal(why, &mut line);
+    if let Written::Length(n) = written {
+        write_out(&line, n);
+    }
+}
+
+// Writes the answer to what was read: the report, or why there is none. No report is longer than the output.
 fn tell(sheet: &[u8], heap: &[u8], records: &[u8], log: &[u8]) {
     let mut output = [0u8; 65535];
-    let n = answer::answer(sheet, heap, records, log, &mut output);
-    write_out(&output, n);
+    let told = answer::report(sheet, heap, records, log, &mut output);
+    match told {
+        Reported::Length(n) => write_out(&output, n),
+        Reported::Refused(why) => tell_refusal(why),
+    }
 }
 
 // The same of the first bytes of three spaces.

@@ -1,11 +1,13 @@
 -- A buffer that a client holds, by its address: what free, store and show test alike. Assumes nothing.
+use mathlib.Core.Path.{_≡_}
+use mathlib.Core.Bool.{true}
 use mathlib.Core.List.{List}
 use Prim.Native.Nat.{ℕ, _*_}
 use lib.Dec.{eqb}
 use lib.ListN.{length}
 use Rattle.words.specs.Run.{pick}
 use Rattle.tags.specs.Tag.{patternOf}
-use Rattle.chunks.specs.Chunk.{tagAt, LawfulGrant, grantSize}
+use Rattle.chunks.specs.Chunk.{tagAt, lawfulSize}
 use Rattle.chunks.specs.Judge.{allocatedVerdict}
 use Rattle.tags.specs.Verdict.{verdictNumber, verdictValue}
 use Rattle.tags.specs.declared.tag.Pattern.{Pattern}
@@ -56,11 +58,7 @@ heldAt g heap records a =
 unfoldable pub heldOf : Areas → ℕ → Held
 heldOf a address = onOpened (openedOf (a .sheet) (length (a .heap)) (length (a .records))) (λ g. heldAt g (a .heap) (a .records) address) Refused
 
--- "the client's own bytes ..: the first s, or all when whole": how many they are
-abbrev pub clientSize : Sheet → Grant → ℕ
-clientSize g q = grantSize (g .size) q
-
--- where they start in the heap
+-- where the client's own bytes start in the heap
 abbrev pub clientAt : Holding → ℕ
 clientAt h = h .buffer * h .sheet .chunk
 
@@ -68,7 +66,7 @@ clientAt h = h .buffer * h .sheet .chunk
 
 pub record Holds (s h r : ℕ) (p : Holding) : Type 0 where
   pub ready : Ready s h r (p .sheet) (p .buffer) (p .own)
-  pub granted : LawfulGrant (p .sheet .size) (p .grant)
+  pub granted : lawfulSize (p .sheet .size) (p .grant) ≡ true
 
 abbrev pub HeldIf : ℕ → ℕ → ℕ → Held → Type 0
 HeldIf s h r (Buffer p) = Holds s h r p

@@ -2,15 +2,16 @@
 use mathlib.Core.List.{List, []}
 use Prim.Native.Nat.{ℕ, _+_, _≤_}
 use Rattle.words.specs.Word.{part}
+use Rattle.chunks.specs.Chunk.{grantSize}
 use Rattle.opening.specs.Areas.{Areas}
-use Rattle.holding.specs.Holding.{heldOf, clientSize, clientAt}
+use Rattle.holding.specs.Holding.{heldOf, clientAt}
 use Rattle.holding.specs.declared.holding.Held.{Held}
 use Rattle.holding.specs.declared.holding.Held.the-variants as held
 use Rattle.holding.specs.declared.show.Shown.{Shown}
 use Rattle.holding.specs.declared.show.Shown.the-variants.{Client, Refused}
 
 abbrev pub shownBy : Held → Shown
-shownBy (held.Buffer h) = Client (clientAt h) (clientSize (h .sheet) (h .grant))
+shownBy (held.Buffer h) = Client (clientAt h) (grantSize (h .sheet .size) (h .grant))
 shownBy (held.Refused why) = Refused why
 
 unfoldable pub shownOf : Areas → ℕ → Shown

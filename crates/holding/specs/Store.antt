@@ -5,8 +5,9 @@ use lib.Dec.{leb}
 use lib.ListN.{length}
 use lib.Seq.{sets}
 use Rattle.words.specs.Run.{pick}
+use Rattle.chunks.specs.Chunk.{grantSize}
 use Rattle.opening.specs.Areas.{Areas, Result, refusedWith}
-use Rattle.holding.specs.Holding.{heldOf, clientSize, clientAt}
+use Rattle.holding.specs.Holding.{heldOf, clientAt}
 use Rattle.area.specs.declared.refusal.Refusal.the-variants.{PastClient}
 use Rattle.area.specs.declared.refusal.Outcome.{Outcome}
 use Rattle.area.specs.declared.refusal.Outcome.the-variants.{Done, Refused}
@@ -16,7 +17,7 @@ use Rattle.holding.specs.declared.holding.Held.the-variants as held
 
 -- "10: offset plus length passes the client's bytes"; "An empty store at offset up to s is accepted."
 abbrev pub storedBy : Held → ℕ → ℕ → Held
-storedBy (held.Buffer h) offset len = pick (leb (offset + len) (clientSize (h .sheet) (h .grant))) (held.Buffer h) (held.Refused PastClient)
+storedBy (held.Buffer h) offset len = pick (leb (offset + len) (grantSize (h .sheet .size) (h .grant))) (held.Buffer h) (held.Refused PastClient)
 storedBy (held.Refused why) offset len = held.Refused why
 
 unfoldable pub storePlan : Areas → ℕ → ℕ → ℕ → Held

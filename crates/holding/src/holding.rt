@@ -3,10 +3,10 @@ ghost use mathlib.Core.Path.{_≡_};
 ghost use Prim.Native.Nat.{_*_, _<_};
 ghost use lib.ListN.{length};
 ghost use Rattle.tags.specs.Tag.{patternOf};
-ghost use Rattle.chunks.specs.Chunk.{ChunkLength, tagAt};
+ghost use Rattle.chunks.specs.Chunk.{ChunkLength, tagAt, grantSize};
 ghost use Rattle.opening.specs.Areas.{areas};
 ghost use Rattle.opening.specs.Sheet.{Open};
-ghost use Rattle.holding.specs.Holding.{heldAs, heldBy, heldChunk, heldAt, heldOf, HeldIf, clientSize};
+ghost use Rattle.holding.specs.Holding.{heldAs, heldBy, heldChunk, heldAt, heldOf, HeldIf};
 use area::place;
 use area::place::Place;
 use area::record;
@@ -124,7 +124,7 @@ pub(crate) fn hold(sheet: &[u8], heap: &[u8], records: &[u8], address: u32) -> H
 
 // How many bytes of its buffer a client has.
 pub(crate) fn client_size(g: Sheet, grant: Grant) -> usize
-    ensures { λ r. ⌜ r ≡ clientSize g grant ⌝ }
+    ensures { λ r. ⌜ r ≡ grantSize (g .size) grant ⌝ }
 {
     match grant {
         Grant::Whole => g.size,

@@ -10,20 +10,18 @@ use lib.Dec.{leb}
 use lib.ListN.{length}
 use Rattle.words.specs.Sum.{total}
 use Rattle.words.proofs.Sums.{total-change, total-none}
-use Rattle.chunks.specs.Chunk.{grantSize}
+use Rattle.chunks.specs.Chunk.{grantSize, lawfulSize}
 use Rattle.chunks.specs.declared.chunk.Grant.{Grant}
 use Rattle.area.specs.Place.{placeOf}
 use Rattle.area.specs.Record.{nextWord}
 use Rattle.opening.specs.Areas.{bufferAddress, recordAddress}
 use Rattle.layout.specs.Layout.{laidAreas}
-use Rattle.allocation.specs.Allocate.{lawfulSize}
 use Rattle.holding.specs.Free.{sameGrant}
 use Rattle.holding.specs.Store.{storedAreas}
 use Rattle.opening.specs.declared.sheet.Sheet.{Sheet}
 use Rattle.area.specs.declared.place.Place.{Place}
 use Rattle.area.specs.declared.place.Place.the-variants as place
 use Rattle.area.proofs.Places.{address-one, place-found}
-use Rattle.allocation.proofs.Takings.{size-lawful}
 use Rattle.ledger.specs.Ledger.{Loan, Call, allocate, free, store, put, fresh, laidOver, World, opened, step, run}
 use Rattle.ledger.proofs.Counts.{put-same, put-other, range}
 use Rattle.ledger.proofs.State.{Laid, outs, Holds, chunk-some}
@@ -72,7 +70,7 @@ module _ (g : Sheet) (laid : Laid g) where
   -- ---- each call
 
   allocate-fine : (w : World) (q : Grant) (uptime thread : ℕ) (head : ℕ) (chain : List ℕ) → Holds g head (w .areas) (w .ledger .out) chain
-      → w .ledger .allocations ≡ w .ledger .frees + outCount g (w .ledger .out) → (b : Bool) → lawfulSize q (g .size) ≡ b
+      → w .ledger .allocations ≡ w .ledger .frees + outCount g (w .ledger .out) → (b : Bool) → lawfulSize (g .size) q ≡ b
       → Fine g (step (g .size) (allocate q uptime thread) w)
   allocate-fine w q uptime thread head chain v k false e =
       rw (allocate-unlawful g laid v q uptime thread e) (record { head = head; chain = chain; holds = v; books = k })
@@ -83,7 +81,7 @@ module _ (g : Sheet) (laid : Laid g) where
       (record {
         head = nextWord (w .areas .records) j;
         chain = js;
-        holds = granted-holds g laid q uptime thread (size-lawful q (g .size) e) v;
+        holds = granted-holds g laid q uptime thread e v;
         books = omega (arith, count-put j (taken-below g laid v) (some (fresh (g .size) q)) (w .ledger .out), ap outs (taken-in g laid v));
       })
 
@@ -139,7 +137,7 @@ module _ (g : Sheet) (laid : Laid g) where
       go j h o e false s = rw (store-past g laid (f .holds) j h o e offset bytes s) f
 
   pub step-fine : (call : Call) (w : World) → Fine g w → Fine g (step (g .size) call w)
-  step-fine (allocate q uptime thread) w f = allocate-fine w q uptime thread (f .head) (f .chain) (f .holds) (f .books) (lawfulSize q (g .size)) refl
+  step-fine (allocate q uptime thread) w f = allocate-fine w q uptime thread (f .head) (f .chain) (f .holds) (f .books) (lawfulSize (g .size) q) refl
   step-fine (free address q uptime thread) w f = free-fine w address q uptime thread f
   step-fine (store address offset bytes) w f = store-fine w address offset bytes f
 

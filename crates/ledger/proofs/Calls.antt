@@ -12,13 +12,13 @@ use lib.ListN.{length}
 use Rattle.words.specs.Word.{part}
 use Rattle.words.proofs.Parts.{part-part}
 use Rattle.chunks.proofs.Chunks.{grant-within}
-use Rattle.chunks.specs.Chunk.{grantSize}
+use Rattle.chunks.specs.Chunk.{grantSize, lawfulSize}
 use Rattle.chunks.specs.declared.chunk.Grant.{Grant}
 use Rattle.chunks.specs.declared.chunk.Grant.the-variants as grant
 use Rattle.opening.specs.Areas.{Areas, refusedWith, bufferAddress, recordAddress, chunkAt}
 use Rattle.area.specs.Place.{placeOf}
 use Rattle.area.specs.Record.{recordSize, addressWord}
-use Rattle.allocation.specs.Allocate.{lawfulSize, takenChunk, takenHead, takenOf, allocatePlan, grantedAreas, allocateOf}
+use Rattle.allocation.specs.Allocate.{takenChunk, takenHead, takenOf, allocatePlan, grantedAreas, allocateOf}
 use Rattle.holding.specs.Holding.{holding, heldAs, heldChunk, heldAt, heldOf}
 use Rattle.holding.specs.Free.{sameGrant, freePlan, freedAreas, freeOf}
 use Rattle.holding.specs.Store.{storePlan, storedAreas, storeOf}
@@ -177,11 +177,11 @@ module _ (g : Sheet) (laid : Laid g) where
 
     -- ---- allocate
 
-    pub allocate-unlawful : (q : Grant) (uptime thread : ℕ) → lawfulSize q (g .size) ≡ false → allocateOf a q uptime thread ≡ refusedWith (allocated.Refused BadSize) a
+    pub allocate-unlawful : (q : Grant) (uptime thread : ℕ) → lawfulSize (g .size) q ≡ false → allocateOf a q uptime thread ≡ refusedWith (allocated.Refused BadSize) a
     unfolding allocateOf allocatePlan takenOf
     allocate-unlawful q uptime thread e = rw (opens g laid v, e)
 
-  pub allocate-none : {head : ℕ} {a : Areas} {out : ℕ → Option Loan} → Holds g head a out [] → (q : Grant) (uptime thread : ℕ) → lawfulSize q (g .size) ≡ true
+  pub allocate-none : {head : ℕ} {a : Areas} {out : ℕ → Option Loan} → Holds g head a out [] → (q : Grant) (uptime thread : ℕ) → lawfulSize (g .size) q ≡ true
       → allocateOf a q uptime thread ≡ refusedWith (allocated.Refused NoRoom) a
   unfolding allocateOf allocatePlan takenOf
   allocate-none {head} v q uptime thread e = rw (opens g laid v, e, eq-eqb head 0 (none-linked g laid _ head (v .linked)))
@@ -194,7 +194,7 @@ module _ (g : Sheet) (laid : Laid g) where
     pub taken-in : out (bufferAddress g j) ≡ none
     taken-in = none-out (out (bufferAddress g j)) (omega (arith, v .each j taken-below, occ-here j js))
 
-    pub allocate-some : (q : Grant) (uptime thread : ℕ) → lawfulSize q (g .size) ≡ true
+    pub allocate-some : (q : Grant) (uptime thread : ℕ) → lawfulSize (g .size) q ≡ true
         → allocateOf a q uptime thread ≡ record { answer = allocated.At (bufferAddress g j); areas = grantedAreas a q uptime thread (spot head j) }
     unfolding allocateOf allocatePlan takenOf takenHead takenChunk
     allocate-some q uptime thread e =

@@ -1,10 +1,10 @@
 -- P1 to P12 hold: a test that is computed over the whole table, and one law that turns it into what each check claims. Assumes nothing.
 use mathlib.Core.Path.{_≡_, refl}
-use mathlib.Core.Bool.{Bool, true, _&&_, and-eq-true-iff}
+use mathlib.Core.Bool.{Bool, true, false, _&&_, not, and-eq-true-iff}
 use mathlib.Core.List.{List, [], _∷_}
-use borrow.Author.Tests.{eqb-true, ltb-true}
+use borrow.Author.Tests.{eqb-true, not-true}
 use lib.Bits.{bitXor}
-use lib.Dec.{eqb, ltb}
+use lib.Dec.{eqb}
 use Rattle.words.specs.Word.{part, flat, number, bytesOf, numberAt}
 use Rattle.words.specs.Run.{repeated, differenceFrom}
 use Rattle.words.specs.Age.{ageOf}
@@ -17,26 +17,31 @@ use Rattle.chunks.specs.declared.chunk.Grant.the-variants as grant
 use Rattle.area.specs.Record.{stamped, recordWord}
 use Rattle.opening.specs.Sheet.{fieldIs, shaped, sheetOf, sizesLawful, basesLawful, lawful, measured, numbered, openedOf}
 use Rattle.area.specs.Place.{placeOf}
+use Rattle.verdicts.specs.Judge.{ownedVerdict, chainedVerdict}
+use Rattle.transactions.specs.Latest.{considered, latestRow}
 use Rattle.layout.specs.Layout.{linkTo, sheetBytes, recordBytes, laidAreas, layOutPlan, layOutOf}
 use Rattle.allocation.specs.Allocate.{takenChunk, takenHead, takenOf, allocatePlan, grantedAreas, allocateOf}
 use Rattle.ledger.specs.Ledger.{allocate, resultOf, put, opened, run}
-use Rattle.ledger.specs.Checks.{freshAreas, refusedAs, chunkVerdict, Check, tagged, judged, aged, next, Holds, AllHold, checks, freeWith, allocatedWith}
+use Rattle.ledger.specs.Checks.{freshAreas, refusedAs, rowLatest, Check, tagged, judged, aged, next, Holds, AllHold, checks, freeWith, allocatedWith}
 
 abbrev test : Check → Bool
 test (tagged t0 t1 s) = eqb (bitXor t0 t1) (stateWord s)
-test (judged c number value) = eqb (verdictNumber (chunkVerdict c)) number && eqb (verdictValue (chunkVerdict c)) value
-test (aged time first second age₁ age₂) = eqb (ageOf 32 time first) age₁ && (eqb (ageOf 32 time second) age₂ && ltb age₂ age₁)
+test (judged c a met number value) =
+    eqb (verdictNumber (ownedVerdict c a met false)) number && eqb (verdictValue (ownedVerdict c a met false)) value
+test (aged time first second age₁ age₂) =
+    eqb (ageOf 32 time first) age₁ && (eqb (ageOf 32 time second) age₂ && (rowLatest time first second && not (rowLatest time second first)))
 test (next calls number) = eqb (refusedAs (resultOf (allocate grant.Whole 4 7) (run 24 calls (opened freshAreas) .areas) .answer)) number
 
 holds : (c : Check) → test c ≡ true → Holds c
 holds (tagged t0 t1 s) e = eqb-true (bitXor t0 t1) (stateWord s) e
-holds (judged c number value) e =
+holds (judged c a met number value) e =
     let both = and-eq-true-iff _ _ .0 e in
-    (eqb-true (verdictNumber (chunkVerdict c)) number (both .0), eqb-true (verdictValue (chunkVerdict c)) value (both .1))
+    (eqb-true (verdictNumber (ownedVerdict c a met false)) number (both .0), eqb-true (verdictValue (ownedVerdict c a met false)) value (both .1))
 holds (aged time first second age₁ age₂) e =
     let one = and-eq-true-iff _ _ .0 e in
     let two = and-eq-true-iff _ _ .0 (one .1) in
-    (eqb-true (ageOf 32 time first) age₁ (one .0), eqb-true (ageOf 32 time second) age₂ (two .0), ltb-true age₂ age₁ (two .1))
+    let three = and-eq-true-iff _ _ .0 (two .1) in
+    (eqb-true (ageOf 32 time first) age₁ (one .0), eqb-true (ageOf 32 time second) age₂ (two .0), three .0, not-true (rowLatest time second first) (three .1))
 holds (next calls number) e = eqb-true (refusedAs (resultOf (allocate grant.Whole 4 7) (run 24 calls (opened freshAreas) .areas) .answer)) number e
 
 abbrev all : List Check → Bool
@@ -48,7 +53,7 @@ all-hold [] e = tt
 all-hold (c ∷ cs) e = let both = and-eq-true-iff _ _ .0 e in (holds c (both .0), all-hold cs (both .1))
 
 computed : all checks ≡ true
-unfolding checks freeWith allocatedWith freshAreas run put layOutPlan layOutOf laidAreas sheetBytes recordBytes flat linkTo part number bytesOf numberAt repeated differenceFrom tagOf patternOf patternWord decodedOf chunkOf freeChunk grantedChunk tagAt chunkVerdict freeVerdict allocatedVerdict zoneVerdict sizedVerdict ageOf stamped fieldIs shaped sheetOf measured numbered openedOf lawful sizesLawful basesLawful placeOf recordWord takenChunk takenHead takenOf allocatePlan grantedAreas allocateOf
+unfolding checks freeWith allocatedWith freshAreas run put layOutPlan layOutOf laidAreas sheetBytes recordBytes flat linkTo part number bytesOf numberAt repeated differenceFrom tagOf patternOf patternWord decodedOf chunkOf freeChunk grantedChunk tagAt ownedVerdict chainedVerdict rowLatest considered latestRow freeVerdict allocatedVerdict zoneVerdict sizedVerdict ageOf stamped fieldIs shaped sheetOf measured numbered openedOf lawful sizesLawful basesLawful placeOf recordWord takenChunk takenHead takenOf allocatePlan grantedAreas allocateOf
 computed = refl
 
 pub checks-hold : AllHold checks

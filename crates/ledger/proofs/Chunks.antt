@@ -1,5 +1,6 @@
 -- What a chunk says, free or granted, with any client bytes laid over its start: proved once over the buffer size. Assumes nothing.
 use mathlib.Core.Path.{_≡_, refl, sym, ap, _∙_}
+use mathlib.Core.Bool.{true}
 use mathlib.Core.Logic.{_≢_, inr}
 use mathlib.Core.List.{List, [], _∷_, _++_, append-assoc}
 use mathlib.Core.Option.{Option, none, some}
@@ -19,10 +20,10 @@ use Rattle.words.proofs.Parts.{getD-part, part-left, part-right, part-all, part
 use Rattle.words.proofs.Runs.{length-repeated, repeated-more, repeated-once, same-nowhere, part-repeated}
 use Rattle.tags.specs.Tag.{tagOf, stateWord}
 use Rattle.tags.specs.SizeCode.{codeOf}
-use Rattle.chunks.specs.Chunk.{redzone, freeFill, grantFill, guard, chunkOf, freeChunk, grantedChunk, tagAt, LawfulGrant, grantSize}
+use Rattle.chunks.specs.Chunk.{redzone, freeFill, grantFill, guard, chunkOf, freeChunk, grantedChunk, tagAt, lawfulSize, grantSize}
 use Rattle.chunks.specs.Judge.{freeVerdict, allocatedVerdict, sizedVerdict, zoneVerdict, zoneAfter}
 use Rattle.tags.proofs.Tags.{decode-code}
-use Rattle.chunks.proofs.Chunks.{length-chunkOf, length-freeChunk, length-grantedChunk, grant-within}
+use Rattle.chunks.proofs.Chunks.{length-chunkOf, length-freeChunk, length-grantedChunk, grant-within, lawful-within}
 use Rattle.tags.specs.declared.tag.State.{State}
 use Rattle.tags.specs.declared.tag.State.the-variants as state
 use Rattle.chunks.specs.declared.chunk.Grant.{Grant}
@@ -179,7 +180,7 @@ chunkFor size a (some o) = sets (grantedChunk size a (o .grant)) 0 (o .client)
 -- what holds of a loan
 abbrev pub LawfulLoan : ℕ → Option Loan → Type 0
 LawfulLoan size none = Unit {0}
-LawfulLoan size (some o) = LawfulGrant size (o .grant) × (length (o .client) ≡ grantSize size (o .grant))
+LawfulLoan size (some o) = (lawfulSize size (o .grant) ≡ true) × (length (o .client) ≡ grantSize size (o .grant))
 
 module _ (size a : ℕ) (few : size ≤ 4096) (word : a < 4294967296) where
   tag-word : (s : State) → tagOf a s .t1 < 4294967296
@@ -221,10 +222,10 @@ module _ (size a : ℕ) (few : size ≤ 4096) (word : a < 4294967296) where
       go (yes e) = rw (eq-eqb s size e, e) (rw e at (ends-guard base guard))
       go (no ne) = rw (ne-eqb s size ne) (ends-within base (guard ∷ []) s (omega arith))
 
-  pub granted-tag : (q : Grant) → LawfulGrant size q → (vs : List ℕ) → length vs ≤ size
+  pub granted-tag : (q : Grant) → lawfulSize size q ≡ true → (vs : List ℕ) → length vs ≤ size
       → tagAt (sets (grantedChunk size a q) 0 vs) ≡ tagOf a state.Allocated
   granted-tag grant.Whole l vs h = tag-is (ends-within whole-ends vs 0 (omega arith))
-  granted-tag (grant.Sized s) l vs h = tag-is (ends-within (sized-ends s (l .1)) vs 0 (omega arith))
+  granted-tag (grant.Sized s) l vs h = tag-is (ends-within (sized-ends s (lawful-within size s (grant.Sized s) refl l .1)) vs 0 (omega arith))
 
   -- T0 and T1 are the record's
   pub tag-for : (o : Option Loan) → LawfulLoan size o → tagAt (chunkFor size a o) ≡ tagOf a (stateFor o)
@@ -245,11 +246,12 @@ module _ (size a : ℕ) (few : size ≤ 4096) (word : a < 4294967296) where
       ∙ getD-set-same c s guard 0 (omega arith)
 
   -- found as granted
-  pub granted-verdict : (q : Grant) → LawfulGrant size q → (vs : List ℕ) → length vs ≡ grantSize size q
+  pub granted-verdict : (q : Grant) → lawfulSize size q ≡ true → (vs : List ℕ) → length vs ≡ grantSize size q
       → allocatedVerdict (sets (grantedChunk size a q) 0 vs) ≡ asGranted q
   granted-verdict grant.Whole l vs e = whole-sound (ends-within whole-ends vs 0 (omega arith))
   granted-verdict (grant.Sized s) l vs e =
-      sized-sound s (ends-within (sized-ends s (l .1)) vs 0 (omega (arith, l .1))) (guard-stands s (l .1) vs e) (l .0) (l .1) (code-other s (l .1))
+      let w = lawful-within size s (grant.Sized s) refl l in
+      sized-sound s (ends-within (sized-ends s (w .1)) vs 0 (omega (arith, w .1))) (guard-stands s (w .1) vs e) (w .0) (w .1) (code-other s (w .1))
 
 -- a fresh loan
 filled-front : (size a r1 k : ℕ) → k ≤ size
@@ -258,19 +260,19 @@ filled-front size a r1 k h =
     buffer-part (repeated size grantFill) redzone r1 (tagOf a state.Allocated .t0) (tagOf a state.Allocated .t1) k (omega (arith, length-repeated size grantFill))
     ∙ part-repeated size k grantFill h
 
-granted-front : (size a : ℕ) (q : Grant) → LawfulGrant size q → part (grantedChunk size a q) 0 (grantSize size q) ≡ repeated (grantSize size q) grantFill
+granted-front : (size a : ℕ) (q : Grant) → lawfulSize size q ≡ true → part (grantedChunk size a q) 0 (grantSize size q) ≡ repeated (grantSize size q) grantFill
 unfolding grantedChunk
 granted-front size a grant.Whole l = filled-front size a redzone size (omega arith)
 granted-front size a (grant.Sized s) l =
     part-before (guard ∷ []) (chunkOf (repeated size grantFill) redzone (codeOf s) (tagOf a state.Allocated .t0) (tagOf a state.Allocated .t1)) s 0 s (omega arith)
-    ∙ filled-front size a (codeOf s) s (l .1)
+    ∙ filled-front size a (codeOf s) s (lawful-within size s (grant.Sized s) refl l .1)
 
-pub fresh-chunk : (size a : ℕ) (q : Grant) → LawfulGrant size q → grantedChunk size a q ≡ chunkFor size a (some (fresh size q))
+pub fresh-chunk : (size a : ℕ) (q : Grant) → lawfulSize size q ≡ true → grantedChunk size a q ≡ chunkFor size a (some (fresh size q))
 fresh-chunk size a q l =
     sym (sets-same (grantedChunk size a q) (grantSize size q) (omega (arith, grant-within size q l, length-grantedChunk size a q)))
     ∙ ap (λ (x : List ℕ). sets (grantedChunk size a q) 0 x) (granted-front size a q l)
 
-pub fresh-lawful : (size : ℕ) (q : Grant) → LawfulGrant size q → LawfulLoan size (some (fresh size q))
+pub fresh-lawful : (size : ℕ) (q : Grant) → lawfulSize size q ≡ true → LawfulLoan size (some (fresh size q))
 fresh-lawful size q l = (l, length-repeated (grantSize size q) grantFill)
 
 -- the client bytes

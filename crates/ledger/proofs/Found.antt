@@ -11,14 +11,14 @@ use borrow.Author.Tests.{eq-eqb, ne-eqb}
 use lib.Dec.{eqb}
 use Rattle.words.specs.Sum.{total}
 use Rattle.words.proofs.Sums.{total-same}
-use Rattle.tags.specs.Tag.{tagOf, patternOf, statePattern}
+use Rattle.tags.specs.Tag.{tagOf, patternOf}
 use Rattle.chunks.specs.Chunk.{tagAt}
-use Rattle.tags.specs.Verdict.{verdictNumber}
+use Rattle.tags.specs.Verdict.{verdictNumber, isFault}
 use Rattle.tags.specs.declared.tag.Tag.{Tag}
 use Rattle.chunks.specs.declared.chunk.Grant.{Grant}
 use Rattle.chunks.specs.declared.chunk.Grant.the-variants as grant
 use Rattle.tags.specs.declared.verdict.Verdict.{Verdict}
-use Rattle.tags.proofs.Tags.{tag-pattern}
+use Rattle.tags.proofs.Tags.{statePattern, tag-pattern}
 use Rattle.opening.specs.Areas.{Areas, bufferAddress, recordAddress}
 use Rattle.area.specs.Record.{addressWord}
 use Rattle.verdicts.specs.Chain.{occ}
@@ -71,12 +71,12 @@ module _ (size a : ℕ) (few : size ≤ 4096) (word : a < 4294967296) where
       rw (pattern-for (some o) l, first-for (some o) l, eq-eqb a a refl, q) (granted-verdict size a few word (o .grant) (l .0) (o .client) (l .1))
 
 -- what the ledger says is no fault, and is found allocated if it is out
-granted-sound : (q : Grant) → verdictNumber (asGranted q) < 20
-granted-sound grant.Whole = omega arith
-granted-sound (grant.Sized s) = omega arith
+granted-sound : (q : Grant) → isFault (verdictNumber (asGranted q)) ≡ false
+granted-sound grant.Whole = refl
+granted-sound (grant.Sized s) = refl
 
-pub noted-sound : (o : Option Loan) → verdictNumber (asNoted o) < 20
-noted-sound none = omega arith
+pub noted-sound : (o : Option Loan) → isFault (verdictNumber (asNoted o)) ≡ false
+noted-sound none = refl
 noted-sound (some o) = granted-sound (o .grant)
 
 module _ (g : Sheet) (laid : Laid g) {head : ℕ} {a : Areas} {out : ℕ → Option Loan} {chain : List ℕ} (v : Holds g head a out chain) where

@@ -1,6 +1,7 @@
 -- An accepted call keeps the invariant. Assumes nothing.
 use mathlib.Core.Path.{_≡_, refl, sym, ap, _∙_, subst}
 use mathlib.Core.Logic.{_≢_, inl, inr}
+use mathlib.Core.Bool.{true}
 use mathlib.Core.List.{List, _∷_, _++_}
 use mathlib.Core.Option.{Option, none, some}
 use Prim.Native.Nat.{ℕ, _+_, _*_, _≤_, _<_}
@@ -11,20 +12,19 @@ use lib.Seq.{sets, length-sets}
 use Rattle.words.specs.Word.{part, number, bytesOf, numberAt}
 use Rattle.words.proofs.Numbers.{length-bytesOf, numberAt-written}
 use Rattle.words.proofs.Parts.{part-written, part-inside, part-place, part-field}
-use Rattle.chunks.specs.Chunk.{LawfulGrant, freeChunk, grantedChunk, grantSize}
+use Rattle.chunks.specs.Chunk.{lawfulSize, freeChunk, grantedChunk, grantSize}
 use Rattle.chunks.proofs.Chunks.{length-freeChunk, length-grantedChunk, grant-within}
 use Rattle.chunks.specs.declared.chunk.Grant.{Grant}
 use Rattle.opening.specs.Areas.{Areas, bufferAddress, recordAddress, chunkAt}
-use Rattle.area.specs.Record.{stamped, recordSize, recordWord, nextWord}
+use Rattle.area.specs.Record.{stamped, recordSize, recordWord, nextWord, stampHighAt, threadAt}
 use Rattle.verdicts.specs.Chain.{occ}
-use Rattle.verdicts.specs.Walk.{Linked}
 use Rattle.allocation.specs.Allocate.{grantedAreas}
 use Rattle.holding.specs.Free.{freedAreas}
 use Rattle.holding.specs.Store.{storedAreas}
 use Rattle.opening.specs.declared.sheet.Sheet.{Sheet}
 use Rattle.opening.proofs.Sheets.{chunk-inside, record-inside}
 use Rattle.verdicts.proofs.Marks.{occ-cons, occ-here, occ-apart}
-use Rattle.verdicts.proofs.Chains.{linked-same}
+use Rattle.verdicts.proofs.Chains.{Linked, linked-same}
 use Rattle.ledger.specs.Ledger.{Loan, put, fresh, laidOver, headed}
 use Rattle.ledger.proofs.Chunks.{chunkFor, LawfulLoan, fresh-chunk, fresh-lawful, store-chunk, store-lawful}
 use Rattle.ledger.proofs.Sheets.{sheet-head}
@@ -38,13 +38,17 @@ use Rattle.ledger.proofs.Calls.{spot, hold, taken-below, chunk-is, loan
 stamped-word : (r : List ℕ) (j uptime thread i o : ℕ) → o + 4 ≤ 16 → recordWord (stamped r j uptime thread) i o ≡ recordWord r i o
 unfolding recordWord stamped numberAt
 stamped-word r j uptime thread i o h =
-    let vs = bytesOf 4 0 ++ bytesOf 4 uptime ++ bytesOf 4 thread in
-    let l : length vs ≡ 12 = simp (length-append, length-bytesOf) in
-    ap number (part-field vs r recordSize j 16 i o 4 (omega arith) (omega arith) (inl h))
+    let stamp = bytesOf 4 0 ++ bytesOf 4 uptime in
+    let l : length stamp ≡ 8 = simp (length-append, length-bytesOf) in
+    let m : length (bytesOf 4 thread) ≡ 4 = length-bytesOf 4 thread in
+    let s = sets r (j * recordSize + stampHighAt) stamp in
+    ap number
+    (part-field (bytesOf 4 thread) s recordSize j threadAt i o 4 (omega arith) (omega arith) (inl (omega arith))
+    ∙ part-field stamp r recordSize j stampHighAt i o 4 (omega arith) (omega arith) (inl h))
 
 length-stamped : (r : List ℕ) (j uptime thread : ℕ) → length (stamped r j uptime thread) ≡ length r
 unfolding stamped
-length-stamped r j uptime thread = length-sets r (j * recordSize + 16) (bytesOf 4 0 ++ bytesOf 4 uptime ++ bytesOf 4 thread)
+length-stamped r j uptime thread = simp length-sets
 
 -- the next word of record j is written
 next-same : (r : List ℕ) (j w : ℕ) → w < 4294967296 → j * recordSize + 4 ≤ length r → recordWord (sets r (j * recordSize + 0) (bytesOf 4 w)) j 0 ≡ w
@@ -78,7 +82,7 @@ module _ (g : Sheet) (laid : Laid g) where
   same-chunk c l j e el h =
       part-written l c (j * g .chunk) (g .chunk) (omega (arith, laid .law .sizes .chunks)) (omega (arith, chunk-inside g (laid .law) j h))
 
-  pub granted-holds : {head : ℕ} {a : Areas} {out : ℕ → Option Loan} {j : ℕ} {js : List ℕ} (q : Grant) (uptime thread : ℕ) → LawfulGrant (g .size) q
+  pub granted-holds : {head : ℕ} {a : Areas} {out : ℕ → Option Loan} {j : ℕ} {js : List ℕ} (q : Grant) (uptime thread : ℕ) → lawfulSize (g .size) q ≡ true
       → Holds g head a out (j ∷ js)
       → Holds g (nextWord (a .records) j) (grantedAreas a q uptime thread (spot g laid head j)) (put (bufferAddress g j) (some (fresh (g .size) q)) out) js
   unfolding grantedAreas

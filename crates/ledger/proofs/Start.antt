@@ -15,7 +15,6 @@ use Rattle.words.proofs.Parts.{part-part, part-left, part-right, part-all, part
 use Rattle.opening.specs.Areas.{Areas, Result, refusedWith, bufferAddress}
 use Rattle.opening.specs.Sheet.{lawful, lengthsRight, measured, numbered, onOpened}
 use Rattle.area.specs.Record.{recordWord, addressWord, nextWord}
-use Rattle.verdicts.specs.Walk.{Linked}
 use Rattle.layout.specs.Layout.{linkTo, laidSheet, recordBytes, laidAreas, layOutPlan, layOutOf}
 use Rattle.opening.specs.declared.sheet.Sheet.{Sheet}
 use Rattle.area.specs.declared.refusal.Refusal.the-variants.{BadSheet, BadNumber, BadLength}
@@ -25,6 +24,7 @@ use Rattle.area.specs.declared.refusal.Outcome.{Outcome}
 use Rattle.area.specs.declared.refusal.Outcome.the-variants.{Done, Refused}
 use Rattle.opening.proofs.Sheets.{lawful-known, buffer-word}
 use Rattle.layout.proofs.Layouts.{link-in, link-out, length-recordBytes, laid-chunk, laid-long}
+use Rattle.verdicts.proofs.Chains.{Linked}
 use Rattle.ledger.proofs.Counts.{range, occ-within, occ-above}
 use Rattle.ledger.proofs.State.{Laid, Holds, record-fits, chunk-some}
 

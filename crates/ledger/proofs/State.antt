@@ -14,12 +14,12 @@ use Rattle.opening.specs.Sheet.{heapLength, recordsLength, lawful, Lawful, open
 use Rattle.area.specs.Place.{placeOf}
 use Rattle.area.specs.Record.{addressWord, nextWord}
 use Rattle.verdicts.specs.Chain.{occ}
-use Rattle.verdicts.specs.Walk.{Linked}
 use Rattle.layout.specs.Layout.{sheetBytes}
 use Rattle.opening.specs.declared.sheet.Sheet.{Sheet}
 use Rattle.opening.specs.declared.sheet.Opened.the-variants.{Image}
 use Rattle.area.specs.declared.place.Place.the-variants.{Nowhere}
 use Rattle.opening.proofs.Sheets.{record-word}
+use Rattle.verdicts.proofs.Chains.{Linked}
 use Rattle.ledger.specs.Ledger.{Loan, headed}
 use Rattle.ledger.proofs.Chunks.{chunkFor, LawfulLoan}
 use Rattle.ledger.proofs.Sheets.{Fits, sheet-opens}

@@ -1,21 +1,22 @@
 -- The theorem: after an accepted lay out and any list of calls the claim holds. Assumes nothing.
 use mathlib.Core.Path.{_≡_, refl, sym, ap, _∙_}
 use mathlib.Core.Logic.{_≢_, _↔_}
-use mathlib.Core.Bool.{true}
+use mathlib.Core.Bool.{true, false}
 use mathlib.Core.List.{List, [], _∷_}
 use mathlib.Core.Option.{Option, none, some}
 use Prim.Native.Nat.{ℕ, _+_, _<_}
 use native.Mathlib.Decide.{decLt}
 use native.Mathlib.Omega.{arith}
 use Rattle.words.specs.Word.{part}
-use Rattle.tags.specs.Verdict.{verdictNumber}
+use Rattle.tags.specs.Verdict.{verdictNumber, isFault}
+use Rattle.chunks.specs.Chunk.{lawfulSize}
 use Rattle.chunks.specs.declared.chunk.Grant.{Grant}
 use Rattle.opening.specs.Areas.{Areas, Result, bufferAddress}
 use Rattle.verdicts.specs.Chain.{Chain, occ}
 use Rattle.verdicts.specs.Pairing.{ownOf}
 use Rattle.verdicts.specs.Judge.{imageChain, verdictOf}
 use Rattle.layout.specs.Layout.{laidSheet}
-use Rattle.allocation.specs.Allocate.{lawfulSize, allocateOf}
+use Rattle.allocation.specs.Allocate.{allocateOf}
 use Rattle.holding.specs.Show.{shownOf}
 use Rattle.opening.specs.declared.sheet.Sheet.{Sheet}
 use Rattle.verdicts.specs.declared.pairing.Own.the-variants.{One}
@@ -54,7 +55,7 @@ module _ (g : Sheet) (laid : Laid g) where
     met-is : imageChain (headed g head) (a .records) .met ≡ chain
     met-is = ap (λ (c : Chain). c .met) (chain-is g laid v)
 
-    no-fault : (i : ℕ) → i < g .count → verdictNumber (verdictOf (headed g head) (a .heap) (a .records) i) < 20
+    no-fault : (i : ℕ) → i < g .count → isFault (verdictNumber (verdictOf (headed g head) (a .heap) (a .records) i)) ≡ false
     no-fault i h = rw (verdict-is g laid v i h) (noted-sound (out (bufferAddress g i)))
 
     -- what is out is a buffer
@@ -88,7 +89,7 @@ module _ (g : Sheet) (laid : Laid g) where
         x o
 
   full : {head : ℕ} {a : Areas} {out : ℕ → Option Loan} (chain : List ℕ) → Holds g head a out chain → (q : Grant) (uptime thread : ℕ)
-      → lawfulSize q (g .size) ≡ true
+      → lawfulSize (g .size) q ≡ true
       → (allocateOf a q uptime thread .answer ≡ allocated.Refused NoRoom) ↔ ((i : ℕ) → i < g .count → isOut (out (bufferAddress g i)) ≡ true)
   full {out = out} [] v q uptime thread e = (
     λ _ i h. is-out (out (bufferAddress g i)) (omega (arith, v .each i h, occ-none i)),
@@ -101,7 +102,7 @@ module _ (g : Sheet) (laid : Laid g) where
   )
 
   accepts : {head : ℕ} {a : Areas} {out : ℕ → Option Loan} (chain : List ℕ) → Holds g head a out chain → (q : Grant) (uptime thread : ℕ)
-      → lawfulSize q (g .size) ≡ true → (allocateOf a q uptime thread .answer ≢ allocated.Refused NoRoom)
+      → lawfulSize (g .size) q ≡ true → (allocateOf a q uptime thread .answer ≢ allocated.Refused NoRoom)
       → (i : ℕ) × ((i < g .count) × ((out (bufferAddress g i) ≡ none) × (allocateOf a q uptime thread .answer ≡ allocated.At (bufferAddress g i))))
   accepts [] v q uptime thread e ne = absurd (ne (ap (λ (r : Result Allocated). r .answer) (allocate-none g laid v q uptime thread e)))
   accepts (j ∷ js) v q uptime thread e ne = (

@@ -1,29 +1,29 @@
 -- The checks P1 to P12 of document 01, as one table: buffer size 24. Assumes nothing.
 use mathlib.Core.Path.{_≡_}
-use mathlib.Core.List.{List, [], _∷_}
-use Prim.Native.Nat.{ℕ, _<_}
+use mathlib.Core.Bool.{Bool, true, false}
+use mathlib.Core.List.{List, [], _∷_, _++_}
+use Prim.Native.Nat.{ℕ}
 use lib.Bits.{bitXor}
 use lib.ListN.{replicate, set}
+use Rattle.words.specs.Word.{bytesOf}
 use Rattle.words.specs.Run.{repeated}
 use Rattle.words.specs.Age.{ageOf}
-use Rattle.tags.specs.Tag.{stateWord, patternOf}
-use Rattle.chunks.specs.Chunk.{redzone, freeFill, grantFill, guard, chunkOf, tagAt}
-use Rattle.chunks.specs.Judge.{ofPattern}
+use Rattle.tags.specs.Tag.{stateWord}
+use Rattle.chunks.specs.Chunk.{redzone, freeFill, grantFill, guard, chunkOf}
 use Rattle.tags.specs.Verdict.{verdictNumber, verdictValue}
-use Rattle.tags.specs.declared.verdict.Verdict.{Verdict}
 use Rattle.tags.specs.declared.tag.State.{State}
 use Rattle.tags.specs.declared.tag.State.the-variants as state
 use Rattle.chunks.specs.declared.chunk.Grant.the-variants as grant
 use Rattle.opening.specs.Areas.{Areas, areas}
+use Rattle.area.specs.declared.place.Place.{Place}
+use Rattle.area.specs.declared.place.Place.the-variants as place
+use Rattle.verdicts.specs.Judge.{ownedVerdict}
+use Rattle.transactions.specs.Latest.{latestRow, firstBest}
 use Rattle.area.specs.Refusal.{refusalNumber}
 use Rattle.layout.specs.Layout.{layOutOf}
 use Rattle.allocation.specs.declared.allocate.Allocated.{Allocated}
 use Rattle.allocation.specs.declared.allocate.Allocated.the-variants as allocated
 use Rattle.ledger.specs.Ledger.{Call, allocate, resultOf, opened, run}
-
--- the verdict on a chunk by its own bytes: the rules of its tag's pattern
-unfoldable pub chunkVerdict : List ℕ → Verdict
-chunkVerdict c = ofPattern (patternOf (tagAt c)) c
 
 -- a fresh image of three buffers of 24 bytes
 unfoldable pub freshAreas : Areas
@@ -34,19 +34,34 @@ abbrev pub refusedAs : Allocated → ℕ
 refusedAs (allocated.At a) = 0
 refusedAs (allocated.Refused why) = refusalNumber why
 
--- two tag words and the state whose pattern their xor is; a chunk with the number and the value of its verdict; a time, two stamps and their ages, of which the second is later; calls
--- made in the fresh image, and the number of the refusal of an allocate after them
+-- a log of one row, which names the record at an address
+abbrev pub rowOf : ℕ → ℕ → List ℕ
+rowOf a stamp = bytesOf 4 a ++ bytesOf 4 stamp ++ bytesOf 4 0 ++ bytesOf 4 2
+
+abbrev pub isRow : Place → Bool
+isRow (place.At k) = true
+isRow place.Nowhere = false
+
+-- of a record with one stamp and a row that names it with another, the row is the latest
+unfoldable pub rowLatest : ℕ → ℕ → ℕ → Bool
+rowLatest time stamp row = isRow (latestRow (rowOf 0x70ae3200 row) 0x70ae3200 time (firstBest stamp time) 1 .row)
+
 pub data Check : Type 0 where
+  -- two tag words, and the state whose pattern their xor is
   tagged : (t0 t1 : ℕ) → State → Check
-  judged : (chunk : List ℕ) (number value : ℕ) → Check
+  -- the chunk of a buffer whose own record is at an address and is met by the chain or not, and the number and the value of its verdict
+  judged : (chunk : List ℕ) (address : ℕ) (met : Bool) (number value : ℕ) → Check
+  -- a time, two stamps and their ages, of which the second is later
   aged : (time first second : ℕ) (age₁ age₂ : ℕ) → Check
+  -- calls made in the fresh image, and the number of the refusal of an allocate after them
   next : (calls : List Call) (number : ℕ) → Check
 
 -- what a check claims
 abbrev pub Holds : Check → Type 0
 Holds (tagged t0 t1 s) = bitXor t0 t1 ≡ stateWord s
-Holds (judged c number value) = (verdictNumber (chunkVerdict c) ≡ number) × (verdictValue (chunkVerdict c) ≡ value)
-Holds (aged time first second age₁ age₂) = (ageOf 32 time first ≡ age₁) × (ageOf 32 time second ≡ age₂) × (age₂ < age₁)
+Holds (judged c a met number value) = (verdictNumber (ownedVerdict c a met false) ≡ number) × (verdictValue (ownedVerdict c a met false) ≡ value)
+Holds (aged time first second age₁ age₂) =
+    (ageOf 32 time first ≡ age₁) × (ageOf 32 time second ≡ age₂) × (rowLatest time first second ≡ true) × (rowLatest time second first ≡ false)
 Holds (next calls number) = refusedAs (resultOf (allocate grant.Whole 4 7) (run 24 calls (opened freshAreas) .areas) .answer) ≡ number
 
 -- every check of a list holds
@@ -66,14 +81,14 @@ unfoldable pub checks : List Check
 checks =
     tagged 0x70ae3260 0x8440c68e state.Free
     ∷ tagged 0x70ae3200 0xd1befaed state.Allocated
-    ∷ judged (freeWith (repeated 24 freeFill) 0x8440c68f) 21 0
-    ∷ judged (allocatedWith (set (repeated 24 grantFill) 20 guard) redzone 0x139d) 2 20
-    ∷ judged (allocatedWith (set (repeated 24 grantFill) 20 guard) redzone 0x139e) 27 0
-    ∷ judged (allocatedWith (repeated 24 grantFill) redzone 1) 27 0
-    ∷ judged (allocatedWith (repeated 24 grantFill) 0xbbedface 0x1789) 2 24
-    ∷ judged (allocatedWith (repeated 24 grantFill) redzone 0x1884) 27 0
-    ∷ judged (allocatedWith (repeated 24 grantFill) 0x00edface redzone) 28 24
-    ∷ judged (freeWith (set (repeated 24 freeFill) 9 0) 0x8440c68e) 25 9
+    ∷ judged (freeWith (repeated 24 freeFill) 0x8440c68f) 0x70ae3260 true 21 0
+    ∷ judged (allocatedWith (set (repeated 24 grantFill) 20 guard) redzone 0x139d) 0x70ae3200 false 2 20
+    ∷ judged (allocatedWith (set (repeated 24 grantFill) 20 guard) redzone 0x139e) 0x70ae3200 false 27 0
+    ∷ judged (allocatedWith (repeated 24 grantFill) redzone 1) 0x70ae3200 false 27 0
+    ∷ judged (allocatedWith (repeated 24 grantFill) 0xbbedface 0x1789) 0x70ae3200 false 2 24
+    ∷ judged (allocatedWith (repeated 24 grantFill) redzone 0x1884) 0x70ae3200 false 27 0
+    ∷ judged (allocatedWith (repeated 24 grantFill) 0x00edface redzone) 0x70ae3200 false 28 24
+    ∷ judged (freeWith (set (repeated 24 freeFill) 9 0) 0x8440c68e) 0x70ae3260 true 25 9
     ∷ aged 0x10 0xfffffff0 8 32 8
     ∷ next (allocate grant.Whole 1 7 ∷ allocate grant.Whole 2 7 ∷ allocate grant.Whole 3 7 ∷ []) 5
     ∷ []

@@ -2,7 +2,7 @@
 -- nothing.
 use mathlib.Core.Path.{_≡_}
 use mathlib.Core.Logic.{_≢_, _↔_}
-use mathlib.Core.Bool.{Bool, true, false, _||_}
+use mathlib.Core.Bool.{Bool, true, false}
 use mathlib.Core.List.{List, [], _∷_}
 use mathlib.Core.Option.{Option, none, some}
 use Prim.Native.Nat.{ℕ, suc, _+_, _<_}
@@ -12,8 +12,8 @@ use lib.Seq.{sets}
 use Rattle.words.specs.Word.{part}
 use Rattle.words.specs.Sum.{total}
 use Rattle.words.specs.Run.{pick, repeated}
-use Rattle.chunks.specs.Chunk.{grantFill, grantSize}
-use Rattle.tags.specs.Verdict.{verdictNumber}
+use Rattle.chunks.specs.Chunk.{grantFill, grantSize, lawfulSize}
+use Rattle.tags.specs.Verdict.{verdictNumber, isFault, isFoundAllocated}
 use Rattle.chunks.specs.declared.chunk.Grant.{Grant}
 use Rattle.chunks.specs.declared.chunk.Grant.the-variants as grant
 use Rattle.tags.specs.declared.verdict.Verdict.{Verdict}
@@ -24,7 +24,7 @@ use Rattle.verdicts.specs.Chain.{occ}
 use Rattle.verdicts.specs.Pairing.{ownOf}
 use Rattle.verdicts.specs.Judge.{imageChain, verdictOf}
 use Rattle.layout.specs.Layout.{laidSheet, layOutOf}
-use Rattle.allocation.specs.Allocate.{lawfulSize, allocateOf}
+use Rattle.allocation.specs.Allocate.{allocateOf}
 use Rattle.holding.specs.Free.{freeOf}
 use Rattle.holding.specs.Store.{storeOf}
 use Rattle.holding.specs.Show.{shownOf}
@@ -158,9 +158,9 @@ abbrev pub asNoted : Option Loan → Verdict
 asNoted none = verdict.Free
 asNoted (some o) = asGranted (o .grant)
 
--- "found allocated is 1 or 2": 1 for such a verdict, and how many of n are
+-- 1 for a buffer that is found allocated, else 0, and how many of n are
 abbrev pub allocatedOne : Verdict → ℕ
-allocatedOne v = pick (eqb (verdictNumber v) 1 || eqb (verdictNumber v) 2) 1 0
+allocatedOne v = pick (isFoundAllocated (verdictNumber v)) 1 0
 
 abbrev pub foundAllocated : (ℕ → Verdict) → ℕ → ℕ
 foundAllocated v n = total (λ i. allocatedOne (v i)) n
@@ -180,8 +180,8 @@ pub record Sound (laid : Sheet) (w : World) : Type 0 where
   pub sheet : Sheet
   pub onlyHead : sheet ≡ headed laid (sheet .head)
   pub opens : openedOf (w .areas .sheet) (length (w .areas .heap)) (length (w .areas .records)) ≡ Image sheet
-  -- no buffer has a fault: "A fault is a verdict of 20 or more."
-  pub noFault : (i : ℕ) → i < laid .count → verdictNumber (verdictOf sheet (w .areas .heap) (w .areas .records) i) < 20
+  -- no buffer has a fault
+  pub noFault : (i : ℕ) → i < laid .count → isFault (verdictNumber (verdictOf sheet (w .areas .heap) (w .areas .records) i)) ≡ false
   -- the buffers found allocated are those that are out, each as last granted, and all others are found free
   pub found : (i : ℕ) → i < laid .count
       → verdictOf sheet (w .areas .heap) (w .areas .records) i ≡ asNoted (w .ledger .out (bufferAddress laid i))
@@ -207,10 +207,10 @@ pub record Sound (laid : Sheet) (w : World) : Type 0 where
       → shownOf (w .areas) (bufferAddress laid i) ≡ shown.Refused NotAllocated
   -- a request of lawful size, "an allocate that refusal 6 doesn't fit", is refused for want of room, "refusal 5", exactly when all buffers are out; else it is
   -- accepted, with the address of a buffer that is not out
-  pub room : (q : Grant) (uptime thread : ℕ) → lawfulSize q (laid .size) ≡ true
+  pub room : (q : Grant) (uptime thread : ℕ) → lawfulSize (laid .size) q ≡ true
       → (allocateOf (w .areas) q uptime thread .answer ≡ allocated.Refused NoRoom)
       ↔ ((i : ℕ) → i < laid .count → isOut (w .ledger .out (bufferAddress laid i)) ≡ true)
-  pub accepts : (q : Grant) (uptime thread : ℕ) → lawfulSize q (laid .size) ≡ true
+  pub accepts : (q : Grant) (uptime thread : ℕ) → lawfulSize (laid .size) q ≡ true
       → (allocateOf (w .areas) q uptime thread .answer ≢ allocated.Refused NoRoom)
       → (i : ℕ)
       × ((i < laid .count)

@@ -11,6 +11,7 @@ use lib.Seq.{sets}
 use Rattle.words.specs.Word.{flat}
 use Rattle.words.specs.Run.{pick}
 use Rattle.words.specs.Sum.{total}
+use Rattle.tags.specs.Verdict.{isFault}
 use Rattle.verdicts.specs.declared.chain.Ending.{Ending}
 use Rattle.verdicts.specs.declared.chain.Ending.the-variants.{End, Broken, Again}
 use Rattle.lines.specs.declared.text.Written.{Written}
@@ -72,9 +73,9 @@ chainLineOf met End = ascii "chain " ++ fieldOf met " end\n"
 chainLineOf met Broken = ascii "chain " ++ fieldOf met " broken\n"
 chainLineOf met (Again r) = ascii "chain " ++ fieldOf met " again " ++ fieldOf r "\n"
 
--- "A fault is a verdict of 20 or more."
+-- 1 for a fault, else 0
 abbrev pub faultOf : ℕ → ℕ
-faultOf number = pick (ltb number 20) 0 1
+faultOf number = pick (isFault number) 1 0
 
 -- "`faults` counts fault lines only": how many of the first n there are
 abbrev pub faultsIn : (ℕ → ℕ) → ℕ → ℕ

@@ -5,10 +5,9 @@ use lib.ListN.{length}
 use Rattle.tags.specs.Verdict.{verdictNumber, verdictValue}
 use Rattle.opening.specs.Sheet.{openedWithLog, onOpened}
 use Rattle.verdicts.specs.Judge.{verdictOf, imageChain}
-use Rattle.area.specs.Refusal.{refusalNumber}
 use Rattle.opening.specs.declared.sheet.Sheet.{Sheet}
 use Rattle.area.specs.declared.refusal.Refusal.the-variants.{ShortOutput}
-use Rattle.lines.specs.Text.{textOf, refusalLineOf, writtenOf, outputOf}
+use Rattle.lines.specs.Text.{textOf, writtenOf, outputOf}
 use Rattle.lines.specs.declared.text.Written.{Written}
 use Rattle.lines.specs.declared.text.Written.the-variants as written
 use Rattle.report.specs.declared.answer.Reported.{Reported}
@@ -44,21 +43,3 @@ reportOf s heap records l output =
 abbrev pub ReportedIf : ℕ → Reported → Type 0
 ReportedIf n (Length k) = (k ≤ n) × (k ≤ 65535)
 ReportedIf n (Refused why) = Unit {0}
-
--- "It writes `refused N` and a line feed, or one line per item": how long the program's answer is, and the output with it
-pub record Answering : Type 0 where
-  pub length : ℕ
-  pub output : List ℕ
-
--- the length of a line that was written, and 0 for none
-abbrev pub lineLength : Written → ℕ
-lineLength (written.Length n) = n
-lineLength written.Short = 0
-
-abbrev pub answerBy : Reported → List ℕ → Answering
-answerBy (Length n) output = record { length = n; output = output }
-answerBy (Refused why) output =
-    record { length = lineLength (writtenOf (refusalLineOf (refusalNumber why)) output); output = outputOf (refusalLineOf (refusalNumber why)) output }
-
-unfoldable pub answerOf : List ℕ → List ℕ → List ℕ → ℕ → List ℕ → Answering
-answerOf s heap records l output = answerBy (reportOf s heap records l output .answer) (reportOf s heap records l output .output)

@@ -1,8 +1,7 @@
 // The report of an image: all of its text, or a refusal and an output that stays as it was.
 ghost use mathlib.Core.Path.{_≡_};
-ghost use Prim.Native.Nat.{_≤_};
 ghost use lib.ListN.{length};
-ghost use Rattle.report.specs.Answer.{reportOf, ReportedIf, answerOf};
+ghost use Rattle.report.specs.Answer.{reportOf, ReportedIf};
 use area::refusal::Refusal;
 use image::inspect;
 use image::inspect::Surveyed;
@@ -33,28 +32,6 @@ pub fn report(sheet: &[u8], heap: &[u8], records: &[u8], log: &[u8], output: &mu
             match written {
                 Written::Short => Reported::Refused(Refusal::ShortOutput),
                 Written::Length(n) => Reported::Length(n),
-            }
-        }
-    }
-}
-
-// Writes what the program says of an image to the output's start, the report or the line of a refusal, and answers its length;
-// 0, where the output has no room for it.
-pub fn answer(sheet: &[u8], heap: &[u8], records: &[u8], log: &[u8], output: &mut [u8]) -> usize
-    ensures answer { λ r. ⌜ r
-        ≡ answerOf (now (sheet .entry)) (now (heap .entry)) (now (records .entry)) (length (now (log .entry))) (now (output .entry)) .length ⌝ }
-    ensures output { λ _. ⌜ now (output .exit)
-        ≡ answerOf (now (sheet .entry)) (now (heap .entry)) (now (records .entry)) (length (now (log .entry))) (now (output .entry)) .output ⌝ }
-    ensures fits { λ r. ⌜ r ≤ length (now (output .entry)) ⌝ }
-{
-    let told = report(sheet, heap, records, log, output);
-    match told {
-        Reported::Length(n) => n,
-        Reported::Refused(why) => {
-            let line = text::write_refusal(why, output);
-            match line {
-                Written::Short => 0,
-                Written::Length(n) => n,
             }
         }
     }

@@ -3,9 +3,13 @@
 ghost use mathlib.Core.Path.{_≡_};
 ghost use Prim.Native.Nat.{_≤_};
 ghost use lib.ListN.{length};
+use area::refusal::Refusal;
 use libc::STDIN_FILENO;
 use libc::STDOUT_FILENO;
+use lines::text;
+use lines::text::Written;
 use report::answer;
+use report::answer::Reported;
 
 // Writes the first n bytes of a text to standard output.
 fn write_out(text: &[u8], n: usize)
@@ -14,19 +18,35 @@ fn write_out(text: &[u8], n: usize)
     io::write_all(STDOUT_FILENO, &text[..n]);
 }
 
-// Writes the answer to one image.
-fn tell(image: &[u8])
+// Writes the line of a refusal, for which there is room.
+fn tell_refusal(why: Refusal) {
+    let mut line = [0u8; 16];
+    let written = text::write_refusal(why, &mut line);
+    if let Written::Length(n) = written {
+        write_out(&line, n);
+    }
+}
+
+// Writes the answer to an image: the report, or why there is none.
+fn tell(sheet: &[u8], heap: &[u8], records: &[u8], log: &[u8]) {
+    let mut output = [0u8; 1024];
+    let told = answer::report(sheet, heap, records, log, &mut output);
+    match told {
+        Reported::Length(n) => write_out(&output, n),
+        Reported::Refused(why) => tell_refusal(why),
+    }
+}
+
+// The same of an image whose areas stand one behind the other.
+fn tell_image(image: &[u8])
     requires { ⌜ length (now image) ≡ 456 ⌝ }
 {
-    let mut output = [0u8; 1024];
-    let n = answer::answer(
+    tell(
         &image[0..48],
         &image[48..168],
         &image[168..456],
         &image[456..456],
-        &mut output,
     );
-    write_out(&output, n);
 }
 
 fn main() {
@@ -37,7 +57,7 @@ fn main() {
         if n < 456 {
             return;
         }
-        tell(&image);
+        tell_image(&image);
         i += 1;
     }
 }

@@ -9,11 +9,13 @@ use lib.Arith.{bin-ind}
 use lib.Bits.{bitXor, differ, xor-step, xor-shr, xor-mod}
 use lib.Dec.{eqb, leb}
 use Rattle.words.specs.Run.{pick}
-use Rattle.tags.specs.Tag.{tagOf, patternOf, patternWord, stateWord, statePattern}
+use Rattle.tags.specs.Tag.{tagOf, patternOf, patternWord, stateWord}
 use Rattle.tags.specs.SizeCode.{codeOf, decodedOf}
 use Rattle.tags.specs.declared.tag.State.{State}
 use Rattle.tags.specs.declared.size_code.Decoded.the-variants.{Size, Bad}
 use Rattle.tags.specs.declared.tag.State.the-variants as state
+use Rattle.tags.specs.declared.tag.Pattern.{Pattern}
+use Rattle.tags.specs.declared.tag.Pattern.the-variants as pattern
 
 -- ---- the tag
 
@@ -47,6 +49,11 @@ xor-twice =
 pub tag-word : (a : ℕ) (s : State) → bitXor (tagOf a s .t0) (tagOf a s .t1) ≡ stateWord s
 unfolding tagOf
 tag-word a s = xor-twice a (stateWord s)
+
+-- the pattern of a state, as it is read
+abbrev pub statePattern : State → Pattern
+statePattern state.Free = pattern.Free
+statePattern state.Allocated = pattern.Allocated
 
 pub tag-pattern : (a : ℕ) (s : State) → patternOf (tagOf a s) ≡ statePattern s
 unfolding patternOf patternWord

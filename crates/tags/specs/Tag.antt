@@ -20,11 +20,6 @@ abbrev pub stateWord : State → ℕ
 stateWord state.Free = freePattern
 stateWord state.Allocated = allocatedPattern
 
--- the pattern of a state, as it is read
-abbrev pub statePattern : State → Pattern
-statePattern state.Free = pattern.Free
-statePattern state.Allocated = pattern.Allocated
-
 -- T0 is the record's address; T1 makes T0 xor T1 the state's pattern
 unfoldable pub tagOf : ℕ → State → Tag
 tagOf a s = record { t0 = a; t1 = bitXor a (stateWord s) }

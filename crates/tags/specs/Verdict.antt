@@ -1,5 +1,7 @@
 -- The number and the value of each verdict, as document 01's "Verdicts" has them. Assumes nothing.
+use mathlib.Core.Bool.{Bool, _||_}
 use Prim.Native.Nat.{ℕ}
+use lib.Dec.{eqb, leb}
 use Rattle.tags.specs.declared.verdict.Verdict.{Verdict}
 use Rattle.tags.specs.declared.verdict.Verdict.the-variants.{Free, Whole, Allocated, NotOneRecord, BadTag, FreedTwice, OffChain, OnChain, BadFill, BadRedzone, BadSizeCode, Overrun}
 
@@ -32,3 +34,17 @@ verdictValue (BadFill o) = o
 verdictValue (BadRedzone o) = o
 verdictValue BadSizeCode = 0
 verdictValue (Overrun o) = o
+
+-- ---- what a verdict says, by its number
+
+-- a fault is a verdict of 20 or more
+abbrev pub isFault : ℕ → Bool
+isFault number = leb 20 number
+
+-- found free is 0
+abbrev pub isFoundFree : ℕ → Bool
+isFoundFree number = eqb number 0
+
+-- found allocated is 1 or 2
+abbrev pub isFoundAllocated : ℕ → Bool
+isFoundAllocated number = eqb number 1 || eqb number 2

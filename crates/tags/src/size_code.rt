@@ -1,6 +1,5 @@
 // The size of a grant of s bytes, coded in R1.
 ghost use mathlib.Core.Path.{_≡_};
-ghost use Prim.Native.Nat.{_≤_};
 ghost use Rattle.tags.specs.SizeCode.{codeOf, decodedOf};
 
 // What a code says.
@@ -9,12 +8,11 @@ pub enum Decoded {
     Bad,
 }
 
-// The code of a size.
-pub fn encode(size: u32) -> u32
-    requires { ⌜ size ≤ 4096 ⌝ }
+// The code of a size. No size of two bytes is too large for it.
+pub fn encode(size: u16) -> u32
     ensures { λ r. ⌜ r ≡ codeOf size ⌝ }
 {
-    251 * size + 1
+    251 * (size as u32) + 1
 }
 
 // The size that a code stands for in a buffer of `most` bytes. The remainder is tested: a division alone would take a

@@ -8,10 +8,10 @@ use native.Mathlib.Decide.{ℕ-discrete}
 use native.Mathlib.Omega.{arith}
 use borrow.Author.Tests.{eq-eqb, ne-eqb}
 use lib.ListN.{length}
-use Rattle.area.specs.Place.{placeOf}
+use Rattle.area.specs.Place.{placeAddress, placeOf}
 use Rattle.area.specs.Record.{recordSize, nextWord}
-use Rattle.verdicts.specs.Chain.{occ, Chain, stop, meets, chainFrom, chainOf, chainAfter}
-use Rattle.verdicts.specs.Walk.{mark, marksOf, ofPlace, endingAt, wordValues, Gives, Linked}
+use Rattle.verdicts.specs.Chain.{occ, Chain, stop, meets, ChainRule, chainFrom, chainOf, chainAfter}
+use Rattle.verdicts.specs.Walk.{mark, marksOf, ofPlace, endingAt, wordValues, Gives}
 use Rattle.area.specs.declared.place.Place.{Place}
 use Rattle.area.specs.declared.place.Place.the-variants.{At, Nowhere}
 use Rattle.verdicts.specs.declared.chain.Ending.{Ending}
@@ -95,6 +95,13 @@ module _ (next : ℕ → ℕ) (at : ℕ → Place) where
       where
         Same : List ℕ → ℕ → Chain → Type 0
         Same seen w c = (d : ℕ) → chainFrom next at (suc (left n seen + d)) seen w ≡ c
+
+-- ---- linked lists
+
+-- the word w is the address of the first of the records l, the next word of each that of the one after it, and the last next word is 0
+unfoldable pub Linked : (ℕ → ℕ) → ℕ → ℕ → ℕ → List ℕ → Type 0
+Linked next base n w [] = w ≡ 0
+Linked next base n w (i ∷ l) = (i < n) × ((w ≡ placeAddress base recordSize i) × Linked next base n (next i) l)
 
 -- ---- the chain of an image
 
@@ -206,6 +213,15 @@ module _ (records : List ℕ) (base n : ℕ) where
 
     pub chain-again-below : (i : ℕ) → chainOf records base n head .ending ≡ Again i → i < n
     chain-again-below i e = chain-below i (let h = chain-met-again i e in omega arith)
+
+  -- the chain from a word, with those records met already, is that of the rule
+  pub chain-rule : ChainRule (nextWord records) (placeOf base recordSize n) (chainAfter records base n)
+  chain-rule = record {
+    ends = λ seen. chain-end seen 0 refl;
+    breaks = chain-broken;
+    comes-back = chain-again;
+    goes-on = chain-meets;
+  }
 
   -- a list of records, none of them twice and none met already, that are linked from the word w down to 0
   linked-after : base ≢ 0 → (l seen : List ℕ) (w : ℕ) → Linked (nextWord records) base n w l → ((i : ℕ) → occ i seen + occ i l ≤ 1)

@@ -15,7 +15,7 @@ use Rattle.area.specs.Record.{addressWord}
 use Rattle.verdicts.specs.Pairing.{namers, theOne, ownOf, ofMark, noted, OwnIf, Paired, PairedIn}
 use Rattle.verdicts.specs.declared.pairing.Own.{Own}
 use Rattle.verdicts.specs.declared.pairing.Own.the-variants.{One, NotOne}
-use Rattle.area.proofs.Places.{same?, address-one}
+use Rattle.area.proofs.Places.{tested, address-one}
 
 -- the mark for a list of records
 abbrev pub markOf : List ℕ → ℕ
@@ -36,7 +36,7 @@ first-below word (suc m) a j l e =
     ⊎-elim
     (λ (t : eqb (word m) a ≡ true). let r : m ∷ namers word m a ≡ j ∷ l = simp t at e in let s : m ≡ j = cc in omega arith)
     (λ (t : eqb (word m) a ≡ false). le-step (first-below word m a j l (simp t at e)))
-    (same? (word m) a)
+    (tested (eqb (word m) a))
 
 -- what a mark says is what the list says
 mark-says : (n : ℕ) (l : List ℕ) → n ≤ 512 → ((j : ℕ) (r : List ℕ) → l ≡ j ∷ r → j < n) → ofMark (markOf l) ≡ theOne l
@@ -83,7 +83,7 @@ module _ (word : ℕ → ℕ) (base chunk n : ℕ) where
       (λ (t : eqb i k ≡ false). let q = eqb-false i k t in
       let y : eqb (word j) (placeAddress base chunk i) ≡ false = ne-eqb _ _ (λ z. q (address-one base chunk i k p (sym z ∙ e))) in
       getD-set-other marks k i _ 0 q ∙ v i l ∙ simp y)
-      (same? i k)
+      (tested (eqb i k))
 
   -- record j names no buffer
   pub marks-miss : (j : ℕ) (marks : List ℕ) → ((i : ℕ) → i < n → word j ≡ placeAddress base chunk i → ⊥) → Marks j marks → Marks (suc j) marks

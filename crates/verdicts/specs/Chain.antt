@@ -1,5 +1,7 @@
 -- The chain: "The chain from a record is that record, then the chain from its next word. It starts at the head. It ends at 0, is broken at a word that is no
 -- record's address, and is "again" at a record already met, which is not counted twice." Assumes nothing.
+use mathlib.Core.Path.{_≡_}
+use mathlib.Core.Logic.{_≢_}
 use mathlib.Core.List.{List, [], _∷_}
 use Prim.Native.Nat.{ℕ, zero, suc, _+_}
 use lib.Dec.{eqb}
@@ -7,6 +9,7 @@ use Rattle.words.specs.Run.{pick}
 use Rattle.area.specs.Place.{placeOf, placed}
 use Rattle.area.specs.Record.{recordSize, nextWord}
 use Rattle.area.specs.declared.place.Place.{Place}
+use Rattle.area.specs.declared.place.Place.the-variants.{At, Nowhere}
 use Rattle.verdicts.specs.declared.chain.Ending.{Ending}
 use Rattle.verdicts.specs.declared.chain.Ending.the-variants.{End, Broken, Again}
 
@@ -27,8 +30,20 @@ stop e = record { met = []; ending = e }
 abbrev pub meets : ℕ → Chain → Chain
 meets i c = record { met = i ∷ c .met; ending = c .ending }
 
--- The chain from the word w, where the records `seen` are met already, `next j` is the next word of record j and `at w` the record whose address w is. The
--- first argument only bounds the number of steps: with one more of them than there are records no chain runs out.
+-- The rule itself, of any `chain` that is told which records are met already and from which word to go on; `next j` is the next word of record j, and `at w`
+-- the record whose address w is.
+pub record ChainRule (next : ℕ → ℕ) (at : ℕ → Place) (chain : List ℕ → ℕ → Chain) : Type 0 where
+  -- "It ends at 0,"
+  pub ends : (seen : List ℕ) → chain seen 0 ≡ stop End
+  -- "is broken at a word that is no record's address,"
+  pub breaks : (seen : List ℕ) (w : ℕ) → w ≢ 0 → at w ≡ Nowhere → chain seen w ≡ stop Broken
+  -- "and is "again" at a record already met, which is not counted twice."
+  pub comes-back : (seen : List ℕ) (w i : ℕ) → w ≢ 0 → at w ≡ At i → occ i seen ≢ 0 → chain seen w ≡ stop (Again i)
+  -- Else it "is that record, then the chain from its next word."
+  pub goes-on : (seen : List ℕ) (w i : ℕ) → w ≢ 0 → at w ≡ At i → occ i seen ≡ 0 → chain seen w ≡ meets i (chain (i ∷ seen) (next i))
+
+-- What meets the rule. The chain from the word w, where the records `seen` are met already, `next j` is the next word of record j and `at w` the record whose address w is. The
+-- first argument only bounds the number of steps: with one more of them than there are records no chain runs out (`chain-rule`).
 unfoldable pub chainFrom : (ℕ → ℕ) → (ℕ → Place) → ℕ → List ℕ → ℕ → Chain
 chainFrom next at zero seen w = stop Broken
 chainFrom next at (suc k) seen w =

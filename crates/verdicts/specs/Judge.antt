@@ -7,7 +7,7 @@ use lib.ListN.{getD}
 use Rattle.words.specs.Run.{pick}
 use Rattle.tags.specs.Tag.{patternOf}
 use Rattle.chunks.specs.Chunk.{tagAt}
-use Rattle.chunks.specs.Judge.{ofPattern}
+use Rattle.chunks.specs.Judge.{freeVerdict, allocatedVerdict}
 use Rattle.tags.specs.declared.tag.Pattern.{Pattern}
 use Rattle.tags.specs.declared.tag.Pattern.the-variants as pattern
 use Rattle.tags.specs.declared.verdict.Verdict.{Verdict}
@@ -35,7 +35,7 @@ isNeither pattern.Free = false
 isNeither pattern.Allocated = false
 isNeither pattern.Neither = true
 
--- the rules from 21 on that ask for the pattern p of the chunk c; the record is met by the chain or not, and the chain is "again" at it or not
+-- the rules from 21 on that ask for the pattern p of the chunk c, which is neither for 21; the record is met by the chain or not, and the chain is "again" at it or not
 unfoldable pub chainedVerdict : List ℕ → Pattern → Bool → Bool → Verdict
 chainedVerdict c p met again =
     pick (isNeither p) BadTag
@@ -45,8 +45,8 @@ chainedVerdict c p met again =
     (pick (isFree p && not met) OffChain
     -- "24: allocated pattern, record met by the chain."
     (pick (isAllocated p && met) OnChain
-    -- 25 to 28, or free, whole, allocated s
-    (ofPattern p c))))
+    -- 25 and 26, or free; 27 and 28, or whole, or allocated s
+    (pick (isFree p) (freeVerdict c) (allocatedVerdict c)))))
 
 -- "21: T0 isn't its own record's address, or the xor is neither pattern.", for a record at the address a
 unfoldable pub ownedVerdict : List ℕ → ℕ → Bool → Bool → Verdict

@@ -1,11 +1,11 @@
--- The marks that stand for the records met, what a walk from some word of the chain on gives, and lists of records that are linked. Assumes nothing.
+-- The marks that stand for the records met, and what a walk from some word of the chain on gives. Assumes nothing.
 use mathlib.Core.Path.{_≡_}
 use mathlib.Core.List.{List, [], _∷_, _++_}
-use Prim.Native.Nat.{ℕ, zero, suc, _+_, _/_, _%_, _<_}
+use Prim.Native.Nat.{ℕ, zero, suc, _+_, _/_, _%_}
 use lib.Dec.{eqb}
 use lib.ListN.{length}
 use Rattle.words.specs.Run.{pick}
-use Rattle.area.specs.Place.{placeAddress, placeOf}
+use Rattle.area.specs.Place.{placeOf}
 use Rattle.area.specs.Record.{recordSize}
 use Rattle.verdicts.specs.Chain.{occ, Chain, chainAfter}
 use Rattle.area.specs.declared.place.Place.{Place}
@@ -59,8 +59,3 @@ pub record Gives (c : Chain) (seen : List ℕ) (base n before r : ℕ) (exit : L
 abbrev pub WalkOf : List ℕ → ℕ → ℕ → ℕ → List ℕ → ℕ → ℕ → List ℕ → Type 0
 WalkOf records base n word entry before r exit =
     (seen : List ℕ) → entry ≡ marksOf 512 seen → Gives (chainAfter records base n seen word) seen base n before r exit
-
--- the word w is the address of the first of the records l, the next word of each that of the one after it, and the last next word is 0
-unfoldable pub Linked : (ℕ → ℕ) → ℕ → ℕ → ℕ → List ℕ → Type 0
-Linked next base n w [] = w ≡ 0
-Linked next base n w (i ∷ l) = (i < n) × ((w ≡ placeAddress base recordSize i) × Linked next base n (next i) l)

@@ -38,7 +38,8 @@ pub fn pair(
     requires { ⌜ n ≤ 512 ⌝ }
     requires { ⌜ 0 < chunk ⌝ }
     requires { ⌜ now marks ≡ replicate 512 0 ⌝ }
-    ensures { λ _. ⌜ Paired (now (records .entry)) base chunk n (now (marks .exit)) ⌝ }
+    ensures paired { λ _. ⌜ Paired (now (records .entry)) base chunk n (now (marks .exit)) ⌝ }
+    ensures long { λ _. ⌜ length (now (marks .exit)) ≡ 512 ⌝ }
 {
     let mut j = 0;
     while j < n {
@@ -67,10 +68,12 @@ fn said(mark: u16) -> Own
     Own::One(mark as usize - 1)
 }
 
-// Buffer i's own record, by its mark.
-pub fn own_record(marks: &[u16; 512], i: usize) -> Own
-    requires { ⌜ i < 512 ⌝ }
+// Buffer i's own record, by its mark; a buffer that has no mark has none.
+pub fn own_record(marks: &[u16], i: usize) -> Own
     ensures { λ r. ⌜ r ≡ ofMark (getD (now (marks .entry)) i 0) ⌝ }
 {
+    if marks.len() <= i {
+        return Own::NotOne;
+    }
     said(marks[i])
 }

@@ -2,7 +2,7 @@
 use mathlib.Core.Path.{_≡_, refl, sym, ap, _∙_}
 use mathlib.Core.Logic.{_⊎_}
 use mathlib.Core.List.{List, [], _∷_}
-use Prim.Native.Nat.{ℕ, zero, suc, _+_, _/_, _%_, _^_, _≤_, _<_}
+use Prim.Native.Nat.{ℕ, zero, suc, _+_, _*_, _/_, _%_, _^_, _≤_, _<_}
 use native.Mathlib.Nat.{pow-succ', one-le-pow, mod-eq-of-lt, div-one}
 use native.Mathlib.Numerals.{add-one}
 use native.Mathlib.Omega.{arith}
@@ -75,6 +75,22 @@ pub four-bytes : (v a b c d : ℕ) → a ≡ v / 16777216 % 256 → b ≡ v / 65
     → a ∷ b ∷ c ∷ d ∷ [] ≡ bytesOf 4 v
 unfolding bytesOf
 four-bytes v a b c d ea eb ec ed = rw (ea, eb, ec, ed, div-one)
+
+-- four bytes are those of their number
+pub four-back : (a b c d : ℕ) → a < 256 → b < 256 → c < 256 → d < 256 → a ∷ b ∷ c ∷ d ∷ [] ≡ bytesOf 4 (number (a ∷ b ∷ c ∷ d ∷ []))
+unfolding number
+four-back a b c d ha hb hc hd =
+    let v = number (a ∷ b ∷ c ∷ d ∷ []) in
+    let qa : v / 16777216 ≡ a = omega arith in
+    let qb : v / 65536 ≡ a * 256 + b = omega arith in
+    let qc : v / 256 ≡ a * 65536 + b * 256 + c = omega arith in
+    four-bytes v a b c d (rw qa (omega arith)) (rw qb (omega arith)) (rw qc (omega arith)) (omega arith)
+
+-- the first of a number's four bytes is replaced
+pub four-first : (v a b c d : ℕ) → a < 256 → b ≡ v / 65536 % 256 → c ≡ v / 256 % 256 → d ≡ v % 256
+    → bytesOf 4 (number (a ∷ b ∷ c ∷ d ∷ [])) ≡ set (bytesOf 4 v) 0 a
+unfolding bytesOf
+four-first v a b c d ha eb ec ed = sym (four-back a b c d ha (omega arith) (omega arith) (omega arith)) ∙ rw (eb, ec, ed, div-one)
 
 pub one-store : (l : List ℕ) (at v : ℕ) → v < 256 → set l at v ≡ sets l at (bytesOf 1 v)
 unfolding bytesOf

@@ -2,7 +2,7 @@
 ghost use mathlib.Core.Path.{_≡_};
 ghost use mathlib.Core.List.{[], _∷_};
 ghost use Prim.Native.Nat.{_+_, _*_, _%_, _≤_};
-ghost use lib.ListN.{length};
+ghost use lib.ListN.{length, set};
 ghost use lib.Seq.{sets};
 ghost use Rattle.words.specs.Word.{number, numberAt, bytesOf};
 
@@ -39,6 +39,13 @@ pub(crate) fn bytes4(v: u32) -> [u8; 4]
     ensures { λ r. ⌜ r ≡ bytesOf 4 v ⌝ }
 {
     [low(v / 16777216), low(v / 65536), low(v / 256), low(v)]
+}
+
+// A number whose four bytes are those of another, but for the first.
+pub fn with_first(v: u32, first: u8) -> u32
+    ensures { λ r. ⌜ bytesOf 4 r ≡ set (bytesOf 4 v) 0 first ⌝ }
+{
+    join4(first, low(v / 65536), low(v / 256), low(v))
 }
 
 // The byte at an offset.

@@ -24,11 +24,11 @@ read-full-requires c κs = search needs
 returns : tie.Need-returns Inv-loop μ-loop
 returns c = search needs
 
-slice-aggregate-tell : tie.Need-slice-aggregate-tell Inv-loop μ-loop
-slice-aggregate-tell c = search needs
+slice-aggregate-tell-image : tie.Need-slice-aggregate-tell-image Inv-loop μ-loop
+slice-aggregate-tell-image c = search needs
 
-tell-requires : tie.Need-tell-requires Inv-loop μ-loop
-tell-requires c κs = search needs
+tell-image-requires : tie.Need-tell-image-requires Inv-loop μ-loop
+tell-image-requires c κs = search needs
 
 add-i : tie.Need-add-i Inv-loop μ-loop
 add-i c = search needs
@@ -52,8 +52,8 @@ main-spec =
     slice-aggregate-read-full
     read-full-requires
     returns
-    slice-aggregate-tell
-    tell-requires
+    slice-aggregate-tell-image
+    tell-image-requires
     add-i
     loop-less
     loop-again

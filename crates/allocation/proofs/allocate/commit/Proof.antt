@@ -1,5 +1,6 @@
 -- The chunk comes back in its place, and each area is written once. Assumes nothing.
-use mathlib.Core.Path.{sym, ap, _∙_, subst}
+use mathlib.Core.Path.{_≡_, sym, ap, _∙_, subst}
+use mathlib.Core.Bool.{true}
 use Prim.Native.Nat.{ℕ}
 use native.Mathlib.Omega.{arith}
 use borrow.Author.Needs.{needs}
@@ -7,7 +8,7 @@ use Rattle.allocation.specs.Allocate.{grantedAreas}
 use Rattle.opening.specs.Areas.{withHead}
 use Rattle.opening.proofs.Sheets.{chunk-inside, chunk-small, lent-size, lent-lawful, chunk-back}
 use Rattle.chunks.proofs.Chunks.{length-grantedChunk}
-use Rattle.chunks.specs.Chunk.{LawfulGrant, grantedChunk}
+use Rattle.chunks.specs.Chunk.{lawfulSize, grantedChunk}
 use Rattle.allocation.proofs.allocate.commit.Statement.{statement}
 use Rattle.allocation.proofs.allocate.commit.Tie as tie
 
@@ -34,7 +35,7 @@ write-granted-requires c κs =
     let s = c .before .before .before .before .before .before .before .before .before .before in
     let k = s .pre .ready in
     let p = s .args .p in
-    (lent-lawful (s .args .heap .now) (p .sheet) (p .buffer) (k .opened .law) (k .opened .heapLong) (k .buffer), subst (λ (n : ℕ). LawfulGrant n (s .args .grant)) (sym (lent-size (s .args .heap .now) (p .sheet) (p .buffer) (k .opened .law) (k .opened .heapLong) (k .buffer))) (s .pre .granted))
+    (lent-lawful (s .args .heap .now) (p .sheet) (p .buffer) (k .opened .law) (k .opened .heapLong) (k .buffer), subst (λ (n : ℕ). lawfulSize n (s .args .grant) ≡ true) (sym (lent-size (s .args .heap .now) (p .sheet) (p .buffer) (k .opened .law) (k .opened .heapLong) (k .buffer))) (s .pre .granted))
 
 stamp-requires : tie.Need-stamp-requires
 stamp-requires c κs = search needs

@@ -3,7 +3,6 @@ use mathlib.Core.Path.{sym, _∙_}
 use borrow.Author.Tests.{eq-eqb, ne-eqb}
 use borrow.Author.Needs.{needs}
 use Rattle.allocation.specs.Allocate.{takenOf}
-use Rattle.allocation.proofs.Takings.{size-lawful}
 use Rattle.allocation.proofs.allocate.take.Statement.{statement}
 use Rattle.allocation.proofs.allocate.take.Tie as tie
 
@@ -15,7 +14,7 @@ unfolding takenOf
 returns c = (rw (← c .before .before .before .lawful-size .ensures, c .before .before .if1 .taken, eq-eqb _ _ (c .if2 .taken)), tt)
 
 take-head-requires : tie.Need-take-head-requires
-take-head-requires c κs = let s = c .before .before .before .before .before .before in (s .pre, size-lawful (s .args .grant) (s .args .g .size) (sym (c .before .before .before .lawful-size .ensures) ∙ c .before .before .if1 .taken))
+take-head-requires c κs = let s = c .before .before .before .before .before .before in (s .pre, sym (c .before .before .before .lawful-size .ensures) ∙ c .before .before .if1 .taken)
 
 returns-2 : tie.Need-returns-2
 unfolding takenOf

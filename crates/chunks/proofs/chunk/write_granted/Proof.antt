@@ -1,9 +1,9 @@
 -- A whole grant is the fill, both redzone words and the allocated tag; one of s bytes has its code in R1 and then the guard byte. Assumes nothing.
-use mathlib.Core.Path.{subst}
 use Prim.Native.Nat.{_≤_}
 use native.Mathlib.Omega.{arith}
 use borrow.Author.Needs.{needs}
-use Rattle.chunks.specs.Chunk.{LawfulGrant, bufferSize, grantedChunk}
+use Rattle.chunks.specs.Chunk.{bufferSize, grantedChunk}
+use Rattle.chunks.proofs.Chunks.{lawful-within}
 use Rattle.chunks.proofs.chunk.write_granted.Statement.{statement}
 use Rattle.chunks.proofs.chunk.write_granted.Tie as tie
 
@@ -21,10 +21,10 @@ enum-known-grant c = search needs
 
 -- the size of the grant is one of the buffer's
 lawful : (c : tie.After-grant) → c .grant .given .0 .0 ≤ bufferSize (c .before .before .before .before .args .chunk .now)
-lawful c = subst (LawfulGrant _) (c .grant .given .1) (c .before .before .before .before .pre .1) .1
+lawful c = lawful-within _ _ _ (c .grant .given .1) (c .before .before .before .before .pre .1) .1
 
-encode-requires : tie.Need-encode-requires
-encode-requires c κs = let h = lawful (c .before .before) in omega arith
+cast-encode : tie.Need-cast-encode
+cast-encode c = let h = lawful (c .before .before) in omega arith
 
 write-requires-2 : tie.Need-write-requires-2
 write-requires-2 c κs = search needs
@@ -57,7 +57,8 @@ write-granted-spec =
     enum-told
     write-requires
     enum-known-grant
-    encode-requires
+    cast-encode
+    (λ c κs. search needs)
     write-requires-2
     cast-i
     slice-write-chunk

@@ -1,7 +1,6 @@
 -- The guard byte comes first, then R0, on whose first byte the guard stands where s is the buffer's size. Assumes nothing.
 use borrow.Author.Tests.{eq-eqb, ne-eqb}
 use borrow.Author.Needs.{needs}
-use Rattle.chunks.proofs.Chunks.{guarded-zone}
 use Rattle.chunks.specs.Judge.{sizedVerdict}
 use Rattle.chunks.proofs.judge.judge_sized.Statement.{statement}
 use Rattle.chunks.proofs.judge.judge_sized.Tie as tie
@@ -21,7 +20,7 @@ judge-zone-requires c κs = search needs
 
 returns-2 : tie.Need-returns-2
 unfolding sizedVerdict
-returns-2 c = rw (eq-eqb _ _ (c .before .before .if1 .left), eq-eqb _ _ (c .before .if2 .taken), ← guarded-zone) (c .judge-zone .ensures)
+returns-2 c = rw (eq-eqb _ _ (c .before .before .before .if1 .left), eq-eqb _ _ (c .before .before .if2 .taken), ← c .before .with-first .ensures) (c .judge-zone .ensures)
 
 judge-zone-requires-2 : tie.Need-judge-zone-requires-2
 judge-zone-requires-2 c κs = search needs
@@ -37,6 +36,7 @@ judge-sized-spec =
     shared-slice-read-if1
     returns
     sub-if2
+    (λ c κs. search needs)
     judge-zone-requires
     returns-2
     judge-zone-requires-2

@@ -14,7 +14,7 @@ walk-from-requires c κs = search needs
 returns : tie.Need-returns
 returns c =
     let w = c .walk-from .ensures in
-    (rw (w .0, w .1 .0) refl, (c .before .before .pair .ensures, w .1 .1))
+    (rw (w .0, w .1 .0) refl, (c .before .before .pair .ensures .0, w .1 .1))
 
 pub note-spec : {M : Type 1} → statement M
 note-spec = tie.close (tie.spec pair-requires walk-from-requires returns)

@@ -1,15 +1,15 @@
 -- A verdict below 20 is no fault, and any other is one. Assumes nothing.
 use native.Mathlib.Omega.{arith}
 use borrow.Author.Needs.{needs}
-use borrow.Author.Tests.{lt-ltb, le-ltb}
+use borrow.Author.Tests.{lt-leb, le-leb}
 use Rattle.lines.proofs.text.fault.Statement.{statement}
 use Rattle.lines.proofs.text.fault.Tie as tie
 
 returns : tie.Need-returns
-returns c = simp (lt-ltb (c .before .args .number) 20 (omega arith)) (search needs)
+returns c = simp (lt-leb 20 (c .before .args .number) (omega arith)) (search needs)
 
 returns-2 : tie.Need-returns-2
-returns-2 c = simp (le-ltb (c .before .args .number) 20 (omega arith)) (search needs)
+returns-2 c = simp (le-leb 20 (c .before .args .number) (omega arith)) (search needs)
 
 pub fault-spec : {M : Type 1} → statement M
 fault-spec = tie.close (tie.spec returns returns-2)

@@ -10,15 +10,12 @@ use Rattle.transactions.proofs.latest.own_of.Tie as tie
 pair-requires : tie.Need-pair-requires
 pair-requires c κs = let o = c .before .before .pre .0 in let l = o .law in (omega arith, (l .bases .recordsFit, (l .sizes .few, (omega arith, refl))))
 
-own-record-requires : tie.Need-own-record-requires
-own-record-requires c κs = search needs
-
 returns : tie.Need-returns
 returns c =
     let s = c .before .before .before .before .before in
     let g = s .args .g in
-    let p = c .before .before .pair .ensures in
+    let p = c .before .before .pair .ensures .0 in
     (c .own-record .ensures ∙ p (s .args .i) (s .pre .1), subst (OwnIf (g .count)) (sym (c .own-record .ensures)) (paired-in (s .args .records .now) (g .heap) (g .chunk) (g .count) (c .before .before .pair .last .1 .1 .1 .1 .1 .0) p (s .args .i) (s .pre .1)))
 
 pub own-of-spec : {M : Type 1} → statement M
-own-of-spec = tie.close (tie.spec pair-requires own-record-requires returns)
+own-of-spec = tie.close (tie.spec pair-requires (λ c. sym (c .before .pair .ensures .1)) (λ c κs. search needs) returns)

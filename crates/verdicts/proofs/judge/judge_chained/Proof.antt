@@ -7,22 +7,13 @@ use Rattle.verdicts.proofs.judge.judge_chained.Tie as tie
 enum-told : tie.Need-enum-told
 enum-told c = search needs
 
-enum-told-2 : tie.Need-enum-told-2
-enum-told-2 c = search needs
-
 returns : tie.Need-returns
 unfolding chainedVerdict
 returns c = rw (c .before .enum-told2 .given .1, c .if1 .taken)
 
-judge-free-requires : tie.Need-judge-free-requires
-judge-free-requires c κs = search needs
-
 returns-2 : tie.Need-returns-2
 unfolding chainedVerdict
 returns-2 c = rw (c .before .before .before .enum-told2 .given .1, c .before .before .if1 .left, c .before .if2 .taken) (c .judge-free .ensures)
-
-enum-told-3 : tie.Need-enum-told-3
-enum-told-3 c = search needs
 
 returns-3 : tie.Need-returns-3
 unfolding chainedVerdict
@@ -31,9 +22,6 @@ returns-3 c = rw (c .before .enum-told3 .given .1, c .if3 .taken)
 returns-4 : tie.Need-returns-4
 unfolding chainedVerdict
 returns-4 c = rw (c .before .before .enum-told3 .given .1, c .before .if3 .left, c .if4 .taken)
-
-judge-allocated-requires : tie.Need-judge-allocated-requires
-judge-allocated-requires c κs = search needs
 
 returns-5 : tie.Need-returns-5
 unfolding chainedVerdict
@@ -52,14 +40,14 @@ judge-chained-spec =
     tie.close
     (tie.spec
     enum-told
-    enum-told-2
+    (λ c. search needs)
     returns
-    judge-free-requires
+    (λ c κs. search needs)
     returns-2
-    enum-told-3
+    (λ c. search needs)
     returns-3
     returns-4
-    judge-allocated-requires
+    (λ c κs. search needs)
     returns-5
     returns-6
     returns-7)

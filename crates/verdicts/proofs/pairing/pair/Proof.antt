@@ -108,9 +108,11 @@ returns c =
     let s = c .before .before .before in
     let a = s .args in
     let v = c .before .loop .inv in
-    let e : c .before .loop .j ≡ a .n = omega arith in
-    marks-all (addressWord (a .records .now)) (a .base) (a .chunk) (a .n) (c .before .loop .marks) (s .pre .1 .1 .0)
-    (subst (λ (k : ℕ). Marks (addressWord (a .records .now)) (a .base) (a .chunk) (a .n) k (c .before .loop .marks)) e (v .1 .1))
+    let e : c .before .loop .j ≡ a .n = omega arith in (
+      marks-all (addressWord (a .records .now)) (a .base) (a .chunk) (a .n) (c .before .loop .marks) (s .pre .1 .1 .0)
+          (subst (λ (k : ℕ). Marks (addressWord (a .records .now)) (a .base) (a .chunk) (a .n) k (c .before .loop .marks)) e (v .1 .1)),
+      v .1 .0,
+    )
 
 pub pair-spec : {M : Type 1} → statement M
 pair-spec =
