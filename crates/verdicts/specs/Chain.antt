@@ -1,5 +1,4 @@
--- The chain: "The chain from a record is that record, then the chain from its next word. It starts at the head. It ends at 0, is broken at a word that is no
--- record's address, and is "again" at a record already met, which is not counted twice." Assumes nothing.
+-- The chain. Assumes nothing.
 use mathlib.Core.List.{List, [], _∷_}
 use Prim.Native.Nat.{ℕ, zero, suc, _+_}
 use lib.Dec.{eqb}
@@ -27,8 +26,9 @@ stop e = record { met = []; ending = e }
 abbrev pub meets : ℕ → Chain → Chain
 meets i c = record { met = i ∷ c .met; ending = c .ending }
 
--- The chain from the word w, where the records `seen` are met already, `next j` is the next word of record j and `at w` the record whose address w is. The
--- first argument only bounds the number of steps: with one more of them than there are records no chain runs out.
+-- H2 (the end), H3 (broken), H4 ("again"), H5 (a record is met): the chain from the word w, where the records `seen` are met already, `next j` is the
+-- next word of record j and `at w` the record whose address w is. The number only bounds the steps: with one more than there are records (H6) no
+-- chain runs out.
 unfoldable pub chainFrom : (ℕ → ℕ) → (ℕ → Place) → ℕ → List ℕ → ℕ → Chain
 chainFrom next at zero seen w = stop Broken
 chainFrom next at (suc k) seen w =
@@ -39,6 +39,6 @@ chainFrom next at (suc k) seen w =
 unfoldable pub chainAfter : List ℕ → ℕ → ℕ → List ℕ → ℕ → Chain
 chainAfter records base n seen w = chainFrom (nextWord records) (placeOf base recordSize n) (suc n) seen w
 
--- "It starts at the head.": the whole chain
+-- H1 (it starts at the head): the whole chain
 unfoldable pub chainOf : List ℕ → ℕ → ℕ → ℕ → Chain
 chainOf records base n head = chainAfter records base n [] head
