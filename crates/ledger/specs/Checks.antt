@@ -34,8 +34,8 @@ abbrev pub refusedAs : Allocated → ℕ
 refusedAs (allocated.At a) = 0
 refusedAs (allocated.Refused why) = refusalNumber why
 
--- two tag words and the state whose pattern their xor is; a chunk with the number and the value of its verdict; a time, two stamps and their ages, of which the second is later; calls
--- made in the fresh image, and the number of the refusal of an allocate after them
+-- two tag words and the state whose pattern their xor is; a chunk with the number and the value of its verdict; a time, two stamps and their ages, of
+-- which the second is later; calls made in the fresh image, and the number of the refusal of an allocate after them
 pub data Check : Type 0 where
   tagged : (t0 t1 : ℕ) → State → Check
   judged : (chunk : List ℕ) (number value : ℕ) → Check
