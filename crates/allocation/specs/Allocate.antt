@@ -29,7 +29,7 @@ use Rattle.allocation.specs.declared.allocate.AllocatePlan.the-variants.
 use Rattle.allocation.specs.declared.allocate.Allocated.{Allocated}
 use Rattle.allocation.specs.declared.allocate.Allocated.the-variants as allocated
 
--- R6 (size 0 or above buffer size) does not fit
+-- X6 (size 0 or above buffer size) does not fit
 abbrev pub lawfulSize : Grant → ℕ → Bool
 lawfulSize Whole size = true
 lawfulSize (Sized s) size = leb 1 s && leb s size
@@ -56,7 +56,7 @@ takenHead g heap records =
     (λ j. placed (placeOf (g .heap) (g .chunk) (g .count) (addressWord records j)) (λ i. takenChunk g (chunkAt g heap i) j i) (Refused (Damage verdict.NotOneRecord)))
     (Refused BrokenHead)
 
--- E5 (R6, R5, then R7)
+-- E5 (X6, X5, then X7)
 unfoldable pub takenOf : Sheet → List ℕ → List ℕ → Grant → AllocatePlan
 takenOf g heap records q =
     pick (lawfulSize q (g .size)) (pick (eqb (g .head) 0) (Refused NoRoom) (takenHead g heap records)) (Refused BadSize)

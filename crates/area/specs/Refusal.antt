@@ -4,7 +4,7 @@ use Rattle.tags.specs.Verdict.{verdictNumber}
 use Rattle.area.specs.declared.refusal.Refusal.{Refusal}
 use Rattle.area.specs.declared.refusal.Refusal.the-variants.{BadSheet, BadNumber, BadLength, NoSuchBuffer, NoRoom, BadSize, Damage, BrokenHead, NotAllocated, OtherGrant, PastClient, ShortOutput, WideStamp}
 
--- R1 to R12: the rule's number is the refusal's
+-- X1 to X12: the rule's number is the refusal's
 abbrev pub refusalNumber : Refusal → ℕ
 refusalNumber BadSheet = 1
 refusalNumber BadNumber = 2

@@ -25,7 +25,7 @@ sameGrant Whole (Sized t) = false
 sameGrant (Sized s) Whole = false
 sameGrant (Sized s) (Sized t) = eqb s t
 
--- R9 (the grant that is named is not the one found), E6
+-- X9 (the grant that is named is not the one found), E6
 abbrev pub freedBy : Held → Grant → Held
 freedBy (held.Buffer h) q = pick (sameGrant (h .grant) q) (held.Buffer h) (held.Refused OtherGrant)
 freedBy (held.Refused why) q = held.Refused why

@@ -14,7 +14,7 @@ use Rattle.holding.specs.declared.holding.Holding.{Holding}
 use Rattle.holding.specs.declared.holding.Held.{Held}
 use Rattle.holding.specs.declared.holding.Held.the-variants as held
 
--- R10 (offset plus length is more than the client's bytes), E9 (an empty store)
+-- X10 (offset plus length is more than the client's bytes), E9 (an empty store)
 abbrev pub storedBy : Held → ℕ → ℕ → Held
 storedBy (held.Buffer h) offset len = pick (leb (offset + len) (clientSize (h .sheet) (h .grant))) (held.Buffer h) (held.Refused PastClient)
 storedBy (held.Refused why) offset len = held.Refused why

@@ -43,7 +43,7 @@ pub record Filling (A B : Type 0) : Type 0 where
 abbrev pub unfilled : {A B : Type 0} → A → List B → Filling A B
 unfilled answer rows = record { answer = answer; rows = rows }
 
--- R11, E8 (an output shorter than the need)
+-- X11, E8 (an output shorter than the need)
 abbrev pub ifRoom : {A B : Type 0} → ℕ → List B → Filling A B → A → Filling A B
 ifRoom need rows full short = pick (leb need (length rows)) full (unfilled short rows)
 
@@ -90,7 +90,7 @@ surveyed g records = record { count = g .count; met = length (imageChain g recor
 abbrev pub Surveying : Type 0
 Surveying = Filling Surveyed ℕ
 
--- K12, E3 (R3 tests the log): the same rows as tabulate has, of an image with a log of l bytes
+-- K12, E3 (X3 tests the log): the same rows as tabulate has, of an image with a log of l bytes
 unfoldable pub surveyOf : List ℕ → List ℕ → List ℕ → ℕ → List ℕ → Surveying
 surveyOf s heap records l rows =
     onOpened (openedWithLog s (length heap) (length records) l)

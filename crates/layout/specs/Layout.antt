@@ -61,7 +61,7 @@ laidAreas g = record {
   records = flat (g .count) (recordBytes g);
 }
 
--- E4 (R1 by the sheet area's length alone, R2 on the arguments, R3): the sheet's numbers where they pass
+-- E4 (X1 by the sheet area's length alone, X2 on the arguments, X3): the sheet's numbers where they pass
 unfoldable pub layOutPlan : Sheet → ℕ → ℕ → ℕ → Opened
 layOutPlan g s h r = pick (eqb s 48) (numbered g h r) (opened.Refused BadSheet)
 

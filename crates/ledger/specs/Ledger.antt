@@ -203,7 +203,7 @@ pub record Sound (laid : Sheet) (w : World) : Type 0 where
       → (at : ℕ) × ((len : ℕ) × ((shownOf (w .areas) a ≡ shown.Client at len) × (part (w .areas .heap) at len ≡ o .client)))
   pub hides : (i : ℕ) → i < laid .count → w .ledger .out (bufferAddress laid i) ≡ none
       → shownOf (w .areas) (bufferAddress laid i) ≡ shown.Refused NotAllocated
-  -- B12: a request of lawful size, which R6 does not fit, is refused for want of room, R5, exactly when all buffers are out; else it is accepted, with
+  -- B12: a request of lawful size, which X6 does not fit, is refused for want of room, X5, exactly when all buffers are out; else it is accepted, with
   -- the address of a buffer that is not out
   pub room : (q : Grant) (uptime thread : ℕ) → lawfulSize q (laid .size) ≡ true
       → (allocateOf (w .areas) q uptime thread .answer ≡ allocated.Refused NoRoom)

@@ -23,7 +23,7 @@ abbrev pub ascii : String → List ℕ
 ascii none = []
 ascii (c then s) = code c ∷ ascii s
 
--- T3 (decimal, without leading zeros): the digits of n, where `fuel` is more than n
+-- G3 (decimal, without leading zeros): the digits of n, where `fuel` is more than n
 unfoldable pub decimalWith : ℕ → ℕ → List ℕ
 decimalWith zero n = []
 decimalWith (suc fuel) n = pick (ltb n 10) ((48 + n) ∷ []) (decimalWith fuel (n / 10) ++ ((48 + n % 10) ∷ []))
@@ -41,20 +41,20 @@ labelled word n = word ++ fieldOf n "\n"
 
 -- ---- lines
 
--- T4 (the first line)
+-- G4 (the first line)
 abbrev pub headerOf : List ℕ
 headerOf = ascii "heap report 1\n"
 
--- T5 (the faults with an offset)
+-- G5 (the faults with an offset)
 unfoldable pub hasOffset : ℕ → Bool
 hasOffset number = eqb number 25 || eqb number 26 || eqb number 28
 
--- T5 (a fault line: `I fault V OFFSET` or `I fault V`)
+-- G5 (a fault line: `I fault V OFFSET` or `I fault V`)
 unfoldable pub faultLineOf : ℕ → ℕ → ℕ → List ℕ
 faultLineOf i number value =
     pick (hasOffset number) (fieldOf i " fault " ++ fieldOf number " " ++ fieldOf value "\n") (fieldOf i " fault " ++ fieldOf number "\n")
 
--- T5 (buffer lines: `I free`, `I whole`, `I allocated S`, or that of a fault): the line of buffer i, whose verdict has this number and this value, its
+-- G5 (buffer lines: `I free`, `I whole`, `I allocated S`, or that of a fault): the line of buffer i, whose verdict has this number and this value, its
 -- size or its offset. Every verdict but 0, 1 and 2 is a fault: none has a number from 3 to 19.
 unfoldable pub lineOf : ℕ → ℕ → ℕ → List ℕ
 lineOf i number value =
@@ -62,11 +62,11 @@ lineOf i number value =
     (pick (eqb number 1) (fieldOf i " whole\n")
     (pick (eqb number 2) (fieldOf i " allocated " ++ fieldOf value "\n") (faultLineOf i number value)))
 
--- T3 (a line for each buffer): those of buffers 0 to n - 1, where `number` and `value` tell each buffer's verdict
+-- G3 (a line for each buffer): those of buffers 0 to n - 1, where `number` and `value` tell each buffer's verdict
 abbrev pub linesOf : (ℕ → ℕ) → (ℕ → ℕ) → ℕ → List ℕ
 linesOf number value n = flat n (λ i. lineOf i (number i) (value i))
 
--- T6 (the chain line: `chain K end`, `chain K broken`, `chain K again R`)
+-- G6 (the chain line: `chain K end`, `chain K broken`, `chain K again R`)
 unfoldable pub chainLineOf : ℕ → Ending → List ℕ
 chainLineOf met End = ascii "chain " ++ fieldOf met " end\n"
 chainLineOf met Broken = ascii "chain " ++ fieldOf met " broken\n"
@@ -76,21 +76,21 @@ chainLineOf met (Again r) = ascii "chain " ++ fieldOf met " again " ++ fieldOf r
 abbrev pub faultOf : ℕ → ℕ
 faultOf number = pick (ltb number 20) 0 1
 
--- T7 (the number of fault lines): how many of the first n there are
+-- G7 (the number of fault lines): how many of the first n there are
 abbrev pub faultsIn : (ℕ → ℕ) → ℕ → ℕ
 faultsIn number n = total (λ i. faultOf (number i)) n
 
--- T7 (the last line)
+-- G7 (the last line)
 abbrev pub faultsOf : ℕ → List ℕ
 faultsOf count = labelled (ascii "faults ") count
 
--- T2 (`refused N` and a line feed)
+-- G2 (`refused N` and a line feed)
 abbrev pub refusalLineOf : ℕ → List ℕ
 refusalLineOf number = labelled (ascii "refused ") number
 
 -- ---- the report
 
--- T3 (the report): that of n buffers, each with its verdict's number and value, and of a chain that met so many records and ended so
+-- G3 (the report): that of n buffers, each with its verdict's number and value, and of a chain that met so many records and ended so
 unfoldable pub textOf : (ℕ → ℕ) → (ℕ → ℕ) → ℕ → ℕ → Ending → List ℕ
 textOf number value n met ending = headerOf ++ linesOf number value n ++ chainLineOf met ending ++ faultsOf (faultsIn number n)
 
@@ -109,11 +109,11 @@ pub record Wrote (entry : List ℕ) (at : ℕ) (text exit : List ℕ) (next : �
   pub filled : next ≤ length entry → exit ≡ sets entry at text
   pub ends : next ≡ at + length text
 
--- T8 (the length of the text is answered), R11 (the output is too short)
+-- G8 (the length of the text is answered), X11 (the output is too short)
 abbrev pub writtenOf : List ℕ → List ℕ → Written
 writtenOf text output = pick (leb (length text) (length output)) (Length (length text)) Short
 
--- T8 (the output behind the text stays), E1 (an output that is too short stays as it was)
+-- G8 (the output behind the text stays), E1 (an output that is too short stays as it was)
 abbrev pub outputOf : List ℕ → List ℕ → List ℕ
 outputOf text output = pick (leb (length text) (length output)) (sets output 0 text) output
 

@@ -1,4 +1,4 @@
--- The sheet's form, its numbers and their limits, and the opening of an image by R1, R2 and R3. Assumes nothing.
+-- The sheet's form, its numbers and their limits, and the opening of an image by X1, X2 and X3. Assumes nothing.
 use mathlib.Core.Path.{_≡_}
 use mathlib.Core.Logic.{_⊎_}
 use mathlib.Core.Bool.{Bool, true, _&&_, _||_, not}
@@ -17,7 +17,7 @@ use Rattle.opening.specs.declared.sheet.Lengths.the-variants as lengths
 use Rattle.opening.specs.declared.sheet.Opened.{Opened}
 use Rattle.opening.specs.declared.sheet.Opened.the-variants.{Image, Refused}
 
--- ---- R1: the form
+-- ---- X1: the form
 
 -- S1 (a field: tag, length, body): the field at an offset has a tag and a length
 unfoldable pub fieldIs : List ℕ → ℕ → ℕ → ℕ → Bool
@@ -46,7 +46,7 @@ abbrev pub fieldsFrom : List Field → ℕ → List ℕ → Bool
 fieldsFrom [] at s = true
 fieldsFrom (f ∷ fs) at s = fieldIs s at (f .tag) (f .len) && fieldsFrom fs (at + (3 + f .len)) s
 
--- S1 (exactly 48 bytes), S2 (the fields): where this fails, R1
+-- S1 (exactly 48 bytes), S2 (the fields): where this fails, X1
 unfoldable pub shaped : List ℕ → Bool
 shaped s = eqb (length s) 48 && fieldsFrom fields 0 s
 
@@ -72,7 +72,7 @@ heapLength g = g .count * g .chunk
 abbrev pub recordsLength : Sheet → ℕ
 recordsLength g = g .count * recordSize
 
--- ---- R2: the limits
+-- ---- X2: the limits
 
 -- S3 (buffer size), S4 (chunk size), S5 (n, and the heap's length), S6 (flags)
 unfoldable pub sizesLawful : ℕ → ℕ → ℕ → ℕ → Bool
@@ -89,7 +89,7 @@ basesLawful heap records heapLen recordsLen =
     && leb (heap + heapLen) 4294967296 && leb (records + recordsLen) 4294967296
     && (leb (heap + heapLen) records || leb (records + recordsLen) heap)
 
--- S9 (cache address and chain head are free): where this fails, R2
+-- S9 (cache address and chain head are free): where this fails, X2
 unfoldable pub lawful : Sheet → Bool
 lawful g = sizesLawful (g .size) (g .chunk) (g .count) (g .flags) && basesLawful (g .heap) (g .records) (heapLength g) (recordsLength g)
 
@@ -117,13 +117,13 @@ pub record Lawful (g : Sheet) : Type 0 where
   pub sizes : Sizes (g .size) (g .chunk) (g .count) (g .flags)
   pub bases : Bases (g .heap) (g .records) (heapLength g) (recordsLength g)
 
--- ---- R3: the lengths, and the opening
+-- ---- X3: the lengths, and the opening
 
--- R3 (the lengths of A1 and A2)
+-- X3 (the lengths of A1 and A2)
 abbrev pub lengthsRight : Sheet → ℕ → ℕ → Bool
 lengthsRight g h r = eqb h (heapLength g) && eqb r (recordsLength g)
 
--- E3 (first R1, R2, R3): the sheet's numbers, or the first refusal that holds, for areas of h and r bytes
+-- E3 (first X1, X2, X3): the sheet's numbers, or the first refusal that holds, for areas of h and r bytes
 unfoldable pub measured : Sheet → ℕ → ℕ → Opened
 measured g h r = pick (lengthsRight g h r) (Image g) (Refused BadLength)
 
@@ -138,7 +138,7 @@ abbrev pub onOpened {ℓ} : {A : Type ℓ} → Opened → (Sheet → A) → (Ref
 onOpened (Image g) f shut = f g
 onOpened (Refused why) f shut = shut why
 
--- A4, R3 (the log: a multiple of 16, at most 16,384), E3 (R3 tests the log where one is given)
+-- A4, X3 (the log: a multiple of 16, at most 16,384), E3 (X3 tests the log where one is given)
 abbrev pub logRight : ℕ → Bool
 logRight l = eqb (l % 16) 0 && leb l 16384
 
@@ -165,7 +165,7 @@ LoggedIf h r l (Refused why) = Unit {0}
 unfoldable pub areasOf : Sheet → Lengths
 areasOf g = pick (lawful g) (lengths.Areas (heapLength g) (recordsLength g)) (lengths.Refused BadNumber)
 
--- K13 (area lengths): R1 and R2, and then the lengths that R3 asks for
+-- K13 (area lengths): X1 and X2, and then the lengths that X3 asks for
 unfoldable pub lengthsOf : List ℕ → Lengths
 lengthsOf s = pick (shaped s) (areasOf (sheetOf s)) (lengths.Refused BadSheet)
 
