@@ -40,7 +40,7 @@ zoneVerdict c zone sound = ifDiffers (difference (part c (bufferSize c) 4) zone)
 abbrev pub zoneAfter : ℕ → ℕ → List ℕ
 zoneAfter s size = pick (eqb s size) (set (bytesOf 4 redzone) 0 guard) (bytesOf 4 redzone)
 
--- J5 (R1 is the code of s): V28 at s (guard), V28 (R0), else V2
+-- J5 (R1 is the code of s): V28 at s (guard), V28 (R0), else V2; J6 (no other byte is judged)
 unfoldable pub sizedVerdict : List ℕ → ℕ → Verdict
 sizedVerdict c s = pick (eqb (getD c s 0) guard) (zoneVerdict c (zoneAfter s (bufferSize c)) (Allocated s)) (Overrun s)
 

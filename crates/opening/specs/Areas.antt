@@ -17,7 +17,7 @@ pub record Areas : Type 0 where
 abbrev pub areas : List ℕ → List ℕ → List ℕ → Areas
 areas sheet heap records = record { sheet = sheet; heap = heap; records = records }
 
--- what a call answers, and the areas afterwards
+-- K1 (all that a call writes): what it answers, and the areas afterwards
 pub record Result (A : Type 0) : Type 0 where
   pub answer : A
   pub areas : Areas
