@@ -5,9 +5,25 @@
  * An image is four areas of bytes: sheet, heap, records and log. The calls need no log
  * and write none. Any bytes of any length may be lent; an image that breaks the rules
  * is refused, with a number that says which rule. Each area is a pointer and then a
- * length, counted in elements. No pointer may be null, even with length 0. What a call
- * writes to must be lent to that call alone and overlap no other area. No call keeps
- * what it was lent.
+ * length, counted in elements. No pointer may be null: for an empty area, such as a log
+ * of no rows, pass any pointer that is not null (a byte of your own, say) with length 0.
+ * What a call writes to must be lent to that call alone and overlap no other area. No
+ * call keeps what it was lent.
+ *
+ * All numbers in the areas stand with their highest byte first. By offset:
+ *
+ *   sheet    48 bytes: eight fields of tag (1 byte), length (2 bytes) and body. Bodies:
+ *            cache address 3, heap base 10, record base 17 (4 bytes each), buffer size
+ *            24, chunk size 29, count of buffers 34 (2 bytes each), chain head 39
+ *            (4 bytes), flags 46 (2 bytes, 0x020f)
+ *   heap     a chunk for each buffer: the buffer, then 16 bytes of redzone and tag.
+ *            Chunk size is buffer size plus 16. Buffer i is at i times the chunk size,
+ *            and its address is the heap base plus that.
+ *   records  a record of 96 bytes for each buffer: next 0, buffer address 4, slab 8,
+ *            cache 12, timestamp 16 (8 bytes; the low half, at 20, is the uptime in ms),
+ *            thread 24; the rest is not read
+ *   log      rows of 16 bytes: record address 0, uptime in ms 4, thread 8, kind 12
+ *            (1 allocate, 2 free; no rule reads it)
  *
  * Every function answers one number:
  *
@@ -30,13 +46,66 @@
 extern "C" {
 #endif
 
+/* Lengths, in bytes but for the count of buffers. */
+enum {
+    CG_SHEET_LENGTH = 48,
+    CG_RECORD_LENGTH = 96,
+    CG_ROW_LENGTH = 16,
+    CG_BUFFERS_MOST = 512,
+    CG_HEAP_MOST = 65536,
+    CG_RECORDS_MOST = 49152, /* 512 records */
+    CG_LOG_MOST = 16384,     /* 1,024 rows */
+    /*
+     * An output of this length has room for every report: that no report is longer is
+     * proved. The longest that the rules allow is far shorter, 8,639 bytes: 14 for the
+     * first line; for 512 buffers 8,594, which is `I fault V OFFSET` with offsets of three
+     * digits (512 buffers have at most 112 bytes each); 20 for `chain 512 again 511`; 11
+     * for `faults 512`.
+     */
+    CG_REPORT_MOST = 65535
+};
+
+/* Verdicts: what is found of a buffer. The first rule that holds gives the verdict. */
+enum {
+    CG_FREE = 0,
+    CG_WHOLE = 1,           /* allocated, the whole buffer */
+    CG_ALLOCATED = 2,       /* allocated, with its size */
+    CG_NOT_ONE_RECORD = 20, /* not exactly one record names the buffer; faults from here on */
+    CG_BAD_TAG = 21,        /* the tag names another record, or has neither pattern */
+    CG_FREED_TWICE = 22,    /* the chain comes back to its record */
+    CG_OFF_CHAIN = 23,      /* free, but not on the chain */
+    CG_ON_CHAIN = 24,       /* allocated, but on the chain */
+    CG_BAD_FILL = 25,       /* written to after it was freed, with the first offset */
+    CG_BAD_REDZONE = 26,    /* redzone of a free buffer written to, with the first offset */
+    CG_BAD_SIZE_CODE = 27,  /* the size code is none */
+    CG_OVERRUN = 28         /* written past its end, with the first offset */
+};
+
+/* Refusals: why a call was not carried out. */
+enum {
+    CG_BAD_SHEET = 1,      /* the sheet is not 48 bytes of the stated tags and lengths */
+    CG_BAD_NUMBER = 2,     /* a number of the sheet, or an argument of lay out, breaks a limit */
+    CG_BAD_LENGTH = 3,     /* an area or the log has a wrong length */
+    CG_NO_SUCH_BUFFER = 4, /* no buffer starts at the address, or the index is not below n */
+    CG_NO_ROOM = 5,        /* the chain's head is 0 */
+    CG_BAD_SIZE = 6,       /* size 0 or above the buffer size */
+    CG_DAMAGE = 7,         /* damage; the detail is a verdict's number, or CG_BROKEN_HEAD */
+    CG_NOT_ALLOCATED = 8,  /* the buffer is free */
+    CG_OTHER_GRANT = 9,    /* the buffer was granted otherwise */
+    CG_PAST_CLIENT = 10,   /* offset plus length passes the client's bytes */
+    CG_SHORT_OUTPUT = 11,  /* what is lent to be written to is too short */
+    CG_WIDE_STAMP = 12,    /* the record's stamp needs more than 32 bits */
+
+    CG_BROKEN_HEAD = 29 /* no refusal but a detail of 7: the chain's head is no record */
+};
+
 /* The number of the refusal, 0 when the call was accepted. */
 static inline uint8_t cg_refusal(uint64_t answer)
 {
     return (uint8_t)(answer & 0xff);
 }
 
-/* The detail of refusal 7: the number of the verdict on the damage met. */
+/* The detail of CG_DAMAGE: the number of the verdict on the damage met, or CG_BROKEN_HEAD. */
 static inline uint8_t cg_detail(uint64_t answer)
 {
     return (uint8_t)((answer >> 8) & 0xff);

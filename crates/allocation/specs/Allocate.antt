@@ -1,4 +1,4 @@
--- "Allocate (size or whole, uptime, thread) takes the head record, answers its buffer's address, and the head becomes its next word." Assumes nothing.
+-- Allocate. Assumes nothing.
 use mathlib.Core.Path.{_≡_}
 use mathlib.Core.Bool.{true}
 use mathlib.Core.List.{List}
@@ -28,29 +28,29 @@ use Rattle.allocation.specs.declared.allocate.AllocatePlan.the-variants.
 use Rattle.allocation.specs.declared.allocate.Allocated.{Allocated}
 use Rattle.allocation.specs.declared.allocate.Allocated.the-variants as allocated
 
--- "fill (25), redzone (26)": "Found free is verdict 0", and then the buffer is taken; any other verdict refuses
+-- E5 (fill 25, redzone 26): a buffer that is found free is taken; any other verdict refuses
 abbrev pub ifFree : Verdict → Spot → AllocatePlan
 ifFree v p = pick (isFoundFree (verdictNumber v)) (Take p) (Refused (Damage v))
 
--- "neither pattern (21), allocated pattern (24)", then the free chunk's own bytes
+-- E5 (neither pattern 21, allocated pattern 24), then the free chunk's own bytes
 abbrev pub takenBy : Pattern → List ℕ → Spot → AllocatePlan
 takenBy pattern.Neither c p = Refused (Damage verdict.BadTag)
 takenBy pattern.Allocated c p = Refused (Damage verdict.OnChain)
 takenBy pattern.Free c p = ifFree (freeVerdict c) p
 
--- "T0 not the head", for the chunk c of the head record's buffer
+-- E5 (T0 is not the head: 21), for the chunk c of the head record's buffer
 unfoldable pub takenChunk : Sheet → List ℕ → ℕ → ℕ → AllocatePlan
 takenChunk g c j i =
     pick (eqb (tagAt c .t0) (g .head)) (takenBy (patternOf (tagAt c)) c (record { sheet = g; buffer = i; own = j })) (Refused (Damage verdict.BadTag))
 
--- "head no record (29), its address word no buffer (20)"
+-- E5 (the head is no record's address 29, its buffer address is no buffer's 20)
 unfoldable pub takenHead : Sheet → List ℕ → List ℕ → AllocatePlan
 takenHead g heap records =
     placed (placeOf (g .records) recordSize (g .count) (g .head))
     (λ j. placed (placeOf (g .heap) (g .chunk) (g .count) (addressWord records j)) (λ i. takenChunk g (chunkAt g heap i) j i) (Refused (Damage verdict.NotOneRecord)))
     (Refused BrokenHead)
 
--- "Allocate: 6, 5, then 7"
+-- E5 (X6, X5, then X7)
 unfoldable pub takenOf : Sheet → List ℕ → List ℕ → Grant → AllocatePlan
 takenOf g heap records q =
     pick (lawfulSize (g .size) q) (pick (eqb (g .head) 0) (Refused NoRoom) (takenHead g heap records)) (Refused BadSize)
@@ -58,7 +58,7 @@ takenOf g heap records q =
 unfoldable pub allocatePlan : Areas → Grant → AllocatePlan
 allocatePlan a q = onOpened (openedOf (a .sheet) (length (a .heap)) (length (a .records))) (λ g. takenOf g (a .heap) (a .records) q) Refused
 
--- what is written: the granted chunk, the record's stamp and thread, the new head. "A granted record's next word stays. Nothing else changes."
+-- K6 (what allocate writes): the granted chunk, the record's stamp and thread, the new head; the next word stays
 unfoldable pub grantedAreas : Areas → Grant → ℕ → ℕ → Spot → Areas
 grantedAreas a q uptime thread p = record {
   sheet = withHead (a .sheet) (nextWord (a .records) (p .own));
@@ -66,6 +66,7 @@ grantedAreas a q uptime thread p = record {
   records = stamped (a .records) (p .own) uptime thread;
 }
 
+-- K5 (allocate answers the buffer's address), E1
 abbrev pub allocateBy : Areas → Grant → ℕ → ℕ → AllocatePlan → Result Allocated
 allocateBy a q uptime thread (Take p) = record { answer = allocated.At (bufferAddress (p .sheet) (p .buffer)); areas = grantedAreas a q uptime thread p }
 allocateBy a q uptime thread (Refused why) = refusedWith (allocated.Refused why) a

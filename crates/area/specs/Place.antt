@@ -6,11 +6,11 @@ use Rattle.words.specs.Run.{pick}
 use Rattle.area.specs.declared.place.Place.{Place}
 use Rattle.area.specs.declared.place.Place.the-variants.{At, Nowhere}
 
--- the address of place i, of places of `stride` bytes from `base` on
+-- A1, A2 (the address of buffer i, of record i): that of place i, of places of `stride` bytes from `base` on
 abbrev pub placeAddress : ℕ → ℕ → ℕ → ℕ
 placeAddress base stride i = base + i * stride
 
--- the place, of the first n, whose address is the word w; a place of no bytes has no address of its own
+-- A7 (whose address a word is): the place, of the first n, whose address is the word w; a place of no bytes has no address of its own
 unfoldable pub placeOf : ℕ → ℕ → ℕ → ℕ → Place
 placeOf base stride zero w = Nowhere
 placeOf base stride (suc i) w = pick (eqb w (placeAddress base stride i) && ltb 0 stride) (At i) (placeOf base stride i w)

@@ -1,9 +1,10 @@
--- "Refusal numbers and their order": the number and the detail of each refusal. Assumes nothing.
+-- The number and the detail of each refusal. Assumes nothing.
 use Prim.Native.Nat.{ℕ}
 use Rattle.tags.specs.Verdict.{verdictNumber}
 use Rattle.area.specs.declared.refusal.Refusal.{Refusal}
 use Rattle.area.specs.declared.refusal.Refusal.the-variants.{BadSheet, BadNumber, BadLength, NoSuchBuffer, NoRoom, BadSize, Damage, BrokenHead, NotAllocated, OtherGrant, PastClient, ShortOutput, WideStamp}
 
+-- X1 to X12: the rule's number is the refusal's
 abbrev pub refusalNumber : Refusal → ℕ
 refusalNumber BadSheet = 1
 refusalNumber BadNumber = 2
@@ -19,7 +20,7 @@ refusalNumber PastClient = 10
 refusalNumber ShortOutput = 11
 refusalNumber WideStamp = 12
 
--- "damage met; detail is the verdict number, or 29 for a broken head"; "its number and detail (0 except for 7)"
+-- E2 (the detail: of 7 the verdict's number, or 29 for a broken head; else 0)
 abbrev pub refusalDetail : Refusal → ℕ
 refusalDetail BadSheet = 0
 refusalDetail BadNumber = 0

@@ -1,4 +1,4 @@
--- The verdict on one chunk: the rules of "Verdicts" that speak of the chunk's own bytes, in their order. Assumes nothing.
+-- The verdict on one chunk: the rules that speak of the chunk's own bytes, in their order (J3, J4, J5). Assumes nothing.
 use mathlib.Core.List.{List}
 use Prim.Native.Nat.{ℕ, _+_}
 use lib.Dec.{eqb}
@@ -14,41 +14,40 @@ use Rattle.tags.specs.declared.size_code.Decoded.the-variants as decoded
 use Rattle.tags.specs.declared.verdict.Verdict.{Verdict}
 use Rattle.tags.specs.declared.verdict.Verdict.the-variants.{Free, Whole, Allocated, BadFill, BadRedzone, BadSizeCode, Overrun}
 
--- where two runs differ, the verdict of that place; else another
+-- J7 (the first byte that differs): where two runs differ, the verdict of that place; else another
 abbrev pub ifDiffers : Difference → (ℕ → Verdict) → Verdict → Verdict
 ifDiffers (At o) f v = f o
 ifDiffers Nowhere f v = v
 
--- R1 of a chunk
+-- C1 (R1 of a chunk)
 abbrev pub r1Of : List ℕ → ℕ
 r1Of c = numberAt 4 c (bufferSize c + 4)
 
--- "Free pattern: 25 if the fill differs; 26 if the redzone differs; each with the first differing byte offset from the buffer's start. Else 0, free."
+-- J3 (free pattern): V25 (fill), V26 (redzone), else V0
 unfoldable pub freeVerdict : List ℕ → Verdict
 freeVerdict c =
     ifDiffers (difference (part c 0 (bufferSize c)) (repeated (bufferSize c) freeFill)) BadFill
     (ifDiffers (difference (part c (bufferSize c) 8) (repeated 8 redzone)) (λ o. BadRedzone (bufferSize c + o))
     Free)
 
--- 28 with the first differing offset if R0 differs from the bytes it should have; else another verdict
+-- V28 (R0 is not as the grant left it), at the first byte that differs; else another verdict
 unfoldable pub zoneVerdict : List ℕ → List ℕ → Verdict → Verdict
 zoneVerdict c zone sound = ifDiffers (difference (part c (bufferSize c) 4) zone) (λ o. Overrun (bufferSize c + o)) sound
 
--- "fe ed fa ce (with bb first when s is buffer size)"
+-- C8 (R0 after a grant of s bytes: bb first when s is buffer size)
 abbrev pub zoneAfter : ℕ → ℕ → List ℕ
 zoneAfter s size = pick (eqb s size) (set (bytesOf 4 redzone) 0 guard) (bytesOf 4 redzone)
 
--- "Then s = R1/251: 28 at s if that byte isn't 0xbb; else 28 at R0's first byte that differs from fe ed fa ce (with bb first when s is buffer size); else 2,
--- allocated s."
+-- J5 (R1 is the code of s): V28 at s (guard), V28 (R0), else V2; J6 (no other byte is judged)
 unfoldable pub sizedVerdict : List ℕ → ℕ → Verdict
 sizedVerdict c s = pick (eqb (getD c s 0) guard) (zoneVerdict c (zoneAfter s (bufferSize c)) (Allocated s)) (Overrun s)
 
--- "Other R1: 27 unless R1 mod 251 is 1 and R1/251 is 1 to buffer size."
+-- V27 (no size code), or what J5 has for its s
 abbrev pub ofCode : Decoded → (ℕ → Verdict) → Verdict
 ofCode (decoded.Size s) f = f s
 ofCode decoded.Bad f = BadSizeCode
 
--- "Allocated pattern, R1 = 0xfeedface: 28 with the first differing offset if R0 differs from 0xfeedface; else 1, whole."
+-- J4 (allocated pattern, R1 is 0xfeedface): V28 (R0), else V1; J5 (any other R1)
 unfoldable pub allocatedVerdict : List ℕ → Verdict
 allocatedVerdict c =
     pick (eqb (r1Of c) redzone) (zoneVerdict c (bytesOf 4 redzone) Whole) (ofCode (decodedOf (r1Of c) (bufferSize c)) (sizedVerdict c))

@@ -1,5 +1,4 @@
--- "Free (address, size or whole, uptime, thread) refills the buffer, restores redzone and tag, puts the old head in next, and its record becomes the head."
--- Assumes nothing.
+-- Free. Assumes nothing.
 use mathlib.Core.Bool.{Bool, true, false}
 use Prim.Native.Nat.{ℕ, _+_, _*_}
 use lib.Dec.{eqb}
@@ -26,7 +25,7 @@ sameGrant Whole (Sized t) = false
 sameGrant (Sized s) Whole = false
 sameGrant (Sized s) (Sized t) = eqb s t
 
--- "9: size or whole differs from the grant"
+-- X9 (the grant that is named is not the one found), E6
 abbrev pub freedBy : Held → Grant → Held
 freedBy (held.Buffer h) q = pick (sameGrant (h .grant) q) (held.Buffer h) (held.Refused OtherGrant)
 freedBy (held.Refused why) q = held.Refused why
@@ -34,7 +33,7 @@ freedBy (held.Refused why) q = held.Refused why
 unfoldable pub freePlan : Areas → ℕ → Grant → Held
 freePlan a address q = freedBy (heldOf a address) q
 
--- what is written: the free chunk, the record's next word, stamp and thread, the new head
+-- K7 (what free writes): the free chunk, the record's next word, stamp and thread, the new head
 unfoldable pub freedAreas : Areas → ℕ → ℕ → Holding → Areas
 freedAreas a uptime thread h = record {
   sheet = withHead (a .sheet) (recordAddress (h .sheet) (h .own));
@@ -42,6 +41,7 @@ freedAreas a uptime thread h = record {
   records = stamped (sets (a .records) (h .own * recordSize + nextAt) (bytesOf 4 (h .sheet .head))) (h .own) uptime thread;
 }
 
+-- K7 (free), E1
 abbrev pub freeBy : Areas → ℕ → ℕ → Held → Result Outcome
 freeBy a uptime thread (held.Buffer h) = record { answer = Done; areas = freedAreas a uptime thread h }
 freeBy a uptime thread (held.Refused why) = refusedWith (Refused why) a

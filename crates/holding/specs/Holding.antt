@@ -30,31 +30,31 @@ use Rattle.holding.specs.declared.holding.Held.the-variants.{Buffer, Ref
 abbrev pub holding : Sheet → ℕ → ℕ → Grant → Held
 holding g i j q = Buffer (record { sheet = g; buffer = i; own = j; grant = q })
 
--- "7 with 27 or 28"; "Found as granted is 1 for a whole grant and 2 with s for a grant of s bytes"
+-- E6 (X7 with 27 or 28), J9 (found as granted: 1 whole, 2 with s)
 abbrev pub heldAs : Verdict → Sheet → ℕ → ℕ → Held
 heldAs v g i j =
     pick (eqb (verdictNumber v) 1) (holding g i j Whole)
     (pick (eqb (verdictNumber v) 2) (holding g i j (Sized (verdictValue v))) (Refused (Damage v)))
 
--- "or neither pattern; 8", then the allocated chunk's own bytes
+-- E6 (neither pattern 21; X8), then the allocated chunk's own bytes
 abbrev pub heldBy : Pattern → List ℕ → Sheet → ℕ → ℕ → Held
 heldBy pattern.Neither c g i j = Refused (Damage verdict.BadTag)
 heldBy pattern.Free c g i j = Refused NotAllocated
 heldBy pattern.Allocated c g i j = heldAs (allocatedVerdict c) g i j
 
--- "7 with 21 if T0 names no record, that record doesn't name this buffer", for the chunk c of buffer i at the address a
+-- E6 (X7 with 21: T0 is no record's address, or that record does not name this buffer), for the chunk c of buffer i at the address a
 unfoldable pub heldChunk : Sheet → List ℕ → List ℕ → ℕ → ℕ → Held
 heldChunk g c records a i =
     placed (placeOf (g .records) recordSize (g .count) (tagAt c .t0))
     (λ j. pick (eqb (addressWord records j) a) (heldBy (patternOf (tagAt c)) c g i j) (Refused (Damage verdict.BadTag)))
     (Refused (Damage verdict.BadTag))
 
--- "4: address not a buffer's start"
+-- X4 (the address is no buffer's)
 unfoldable pub heldAt : Sheet → List ℕ → List ℕ → ℕ → Held
 heldAt g heap records a =
     placed (placeOf (g .heap) (g .chunk) (g .count) a) (λ i. heldChunk g (chunkAt g heap i) records a i) (Refused NoSuchBuffer)
 
--- "Free, store, show: 4; 7 ..; 8; 7 .."
+-- E6 (free, store and show: X4, X7 with 21, X8, X7 with 27 or 28), after E3
 unfoldable pub heldOf : Areas → ℕ → Held
 heldOf a address = onOpened (openedOf (a .sheet) (length (a .heap)) (length (a .records))) (λ g. heldAt g (a .heap) (a .records) address) Refused
 

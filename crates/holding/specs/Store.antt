@@ -1,4 +1,4 @@
--- "Store writes bytes at an offset in an allocated buffer." Assumes nothing.
+-- Store. Assumes nothing.
 use mathlib.Core.List.{List}
 use Prim.Native.Nat.{ℕ, _+_, _≤_}
 use lib.Dec.{leb}
@@ -15,7 +15,7 @@ use Rattle.holding.specs.declared.holding.Holding.{Holding}
 use Rattle.holding.specs.declared.holding.Held.{Held}
 use Rattle.holding.specs.declared.holding.Held.the-variants as held
 
--- "10: offset plus length passes the client's bytes"; "An empty store at offset up to s is accepted."
+-- X10 (offset plus length is more than the client's bytes), E9 (an empty store)
 abbrev pub storedBy : Held → ℕ → ℕ → Held
 storedBy (held.Buffer h) offset len = pick (leb (offset + len) (grantSize (h .sheet .size) (h .grant))) (held.Buffer h) (held.Refused PastClient)
 storedBy (held.Refused why) offset len = held.Refused why
@@ -23,10 +23,11 @@ storedBy (held.Refused why) offset len = held.Refused why
 unfoldable pub storePlan : Areas → ℕ → ℕ → ℕ → Held
 storePlan a address offset len = storedBy (heldOf a address) offset len
 
--- what is written: the bytes, from the offset on
+-- K9 (what store writes): the bytes, from the offset on
 unfoldable pub storedAreas : Areas → ℕ → List ℕ → Holding → Areas
 storedAreas a offset bytes h = record { sheet = a .sheet; heap = sets (a .heap) (clientAt h + offset) bytes; records = a .records }
 
+-- K9 (store), E1
 abbrev pub storeBy : Areas → ℕ → List ℕ → Held → Result Outcome
 storeBy a offset bytes (held.Buffer h) = record { answer = Done; areas = storedAreas a offset bytes h }
 storeBy a offset bytes (held.Refused why) = refusedWith (Refused why) a

@@ -1,4 +1,4 @@
--- "Inspect fills a lent row of findings, one record per buffer, rows past n untouched; each holds index and verdict, with its size or offset." Assumes nothing.
+-- Inspect: the findings of an image. Assumes nothing.
 use mathlib.Core.Path.{_≡_}
 use mathlib.Core.List.{List, [], _∷_}
 use Prim.Native.Nat.{ℕ, zero, suc, _*_, _≤_, _<_}
@@ -25,11 +25,11 @@ use Rattle.image.specs.declared.inspect.Surveyed.the-variants as surveys
 use Rattle.image.specs.declared.inspect.Inspected.{Inspected}
 use Rattle.image.specs.declared.inspect.Inspected.the-variants.{Count, Refused}
 
--- "each holds index and verdict, with its size or offset": the finding of buffer i
+-- K11 (index and verdict): the finding of buffer i
 abbrev pub findingOf : Sheet → List ℕ → List ℕ → ℕ → Finding
 findingOf g heap records i = record { index = i; verdict = verdictOf g heap records i }
 
--- "one record per buffer, rows past n untouched": a lent row once the findings f 0 to f (n - 1) stand at their places
+-- K11 (one for each buffer, places past n stay): a lent row once the findings f 0 to f (n - 1) stand at their places
 abbrev pub filled : (ℕ → Finding) → List Finding → ℕ → List Finding
 filled f rows zero = rows
 filled f rows (suc i) = set (filled f rows i) i (f i)
@@ -39,15 +39,15 @@ pub record Filling (A B : Type 0) : Type 0 where
   pub answer : A
   pub rows : List B
 
--- a refused call leaves the row
+-- E1 (a refused call leaves the row)
 abbrev pub unfilled : {A B : Type 0} → A → List B → Filling A B
 unfilled answer rows = record { answer = answer; rows = rows }
 
--- "Inspect and report: 11", "output shorter than the exact need"
+-- X11, E8 (an output shorter than the need)
 abbrev pub ifRoom : {A B : Type 0} → ℕ → List B → Filling A B → A → Filling A B
 ifRoom need rows full short = pick (leb need (length rows)) full (unfilled short rows)
 
--- the need is a finding for each buffer
+-- E8 (the need: a finding for each buffer), after E3
 abbrev pub Inspection : Type 0
 Inspection = Filling Inspected Finding
 
@@ -59,7 +59,7 @@ inspectOf s heap records rows =
 
 -- ---- the findings as numbers
 
--- the numbers of a finding: the index, the verdict's number, and its size or offset, else 0
+-- K12 (findings as numbers): the index, the verdict's number, and its size or offset, else 0
 abbrev pub numbersOf : Finding → List ℕ
 numbersOf f = f .index ∷ verdictNumber (f .verdict) ∷ verdictValue (f .verdict) ∷ []
 
@@ -71,7 +71,7 @@ rowsOf f n = flat n (λ i. numbersOf (f i))
 unfoldable pub tableOf : Sheet → List ℕ → List ℕ → List ℕ
 tableOf g heap records = rowsOf (findingOf g heap records) (g .count)
 
--- the same tests as inspect has; the exact need is three numbers for each buffer
+-- K12, E8: the same tests as inspect has; the need is three numbers for each buffer
 unfoldable pub tabulateOf : List ℕ → List ℕ → List ℕ → List ℕ → Filling Inspected ℕ
 tabulateOf s heap records rows =
     onOpened (openedOf s (length heap) (length records))
@@ -83,14 +83,14 @@ abbrev pub InspectedIf : Inspected → Type 0
 InspectedIf (Count n) = n ≤ 512
 InspectedIf (Refused why) = Unit {0}
 
--- what a survey of an image tells: the number of its buffers, how many records the chain meets, and how it ends
+-- K12 (what a survey tells): the number of buffers, how many records the chain meets, and how it ends
 abbrev pub surveyed : Sheet → List ℕ → Overview
 surveyed g records = record { count = g .count; met = length (imageChain g records .met); ending = imageChain g records .ending }
 
 abbrev pub Surveying : Type 0
 Surveying = Filling Surveyed ℕ
 
--- the same tests and the same rows as tabulate has, of an image with a log of l bytes
+-- K12, E3 (X3 tests the log): the same rows as tabulate has, of an image with a log of l bytes
 unfoldable pub surveyOf : List ℕ → List ℕ → List ℕ → ℕ → List ℕ → Surveying
 surveyOf s heap records l rows =
     onOpened (openedWithLog s (length heap) (length records) l)

@@ -1,5 +1,4 @@
--- "Lay out, given the cache address, bases, size and n: writes all three areas; all buffers free; buffer i paired with record i; chain 0 to n-1 in order; each
--- record holds next, address and cache, all else 0." Assumes nothing.
+-- Lay out. Assumes nothing.
 use mathlib.Core.Path.{_≡_}
 use mathlib.Core.List.{List, _++_}
 use Prim.Native.Nat.{ℕ, suc, _+_}
@@ -17,11 +16,11 @@ use Rattle.area.specs.declared.refusal.Refusal.the-variants.{BadSheet}
 use Rattle.area.specs.declared.refusal.Outcome.{Outcome}
 use Rattle.area.specs.declared.refusal.Outcome.the-variants.{Done, Refused}
 
--- the word that leads to record i: its address, or 0 past the last
+-- K4 (the next words): the word that leads to record i, its address, or 0 past the last
 unfoldable pub linkTo : Sheet → ℕ → ℕ
 linkTo g i = pick (ltb i (g .count)) (recordAddress g i) 0
 
--- the numbers of the sheet: the arguments, a chunk of buffer size plus 16, the chain from record 0, and the flags
+-- K2 (the sheet's numbers): the arguments, a chunk of buffer size plus 16, the chain from record 0, and the flags
 abbrev pub laidSheet : ℕ → ℕ → ℕ → ℕ → ℕ → Sheet
 laidSheet cache heap records size n = record {
   cache = cache;
@@ -34,11 +33,11 @@ laidSheet cache heap records size n = record {
   flags = 0x020f;
 }
 
--- a tagged field: "a one-byte tag, a two-byte length, the body"
+-- S1 (a field: tag, length, body)
 abbrev pub field : ℕ → ℕ → ℕ → List ℕ
 field tag len body = bytesOf 1 tag ++ bytesOf 2 len ++ bytesOf len body
 
--- the bytes of a sheet, "Tags 1 to 8 .. in order"
+-- S2 (tags 1 to 8, in order): the bytes of a sheet
 unfoldable pub sheetBytes : Sheet → List ℕ
 sheetBytes g =
     field 1 4 (g .cache)
@@ -50,11 +49,11 @@ sheetBytes g =
     ++ field 7 4 (g .head)
     ++ field 8 2 (g .flags)
 
--- the bytes of record i: next at 0, buffer address 4, slab 8, cache 12, and 0 up to its end
+-- K4 (the bytes of record i): next at 0, buffer address 4, slab 8, cache 12, and 0 up to its end
 unfoldable pub recordBytes : Sheet → ℕ → List ℕ
 recordBytes g i = bytesOf 4 (linkTo g (suc i)) ++ bytesOf 4 (bufferAddress g i) ++ bytesOf 4 0 ++ bytesOf 4 (g .cache) ++ replicate 80 0
 
--- the areas of an image that is laid out
+-- K2 (the sheet), K3 (the heap), K4 (the records): the areas of an image that is laid out
 unfoldable pub laidAreas : Sheet → Areas
 laidAreas g = record {
   sheet = sheetBytes g;
@@ -62,10 +61,11 @@ laidAreas g = record {
   records = flat (g .count) (recordBytes g);
 }
 
--- "Lay out tests only these: 1 by its sheet area's length alone, 2 on its arguments", and 3: the sheet's numbers where they pass
+-- E4 (X1 by the sheet area's length alone, X2 on the arguments, X3): the sheet's numbers where they pass
 unfoldable pub layOutPlan : Sheet → ℕ → ℕ → ℕ → Opened
 layOutPlan g s h r = pick (eqb s 48) (numbered g h r) (opened.Refused BadSheet)
 
+-- K2 to K4, E1, E4 (lay out)
 unfoldable pub layOutOf : Areas → ℕ → ℕ → ℕ → ℕ → ℕ → Result Outcome
 layOutOf a cache heap records size n =
     onOpened (layOutPlan (laidSheet cache heap records size n) (length (a .sheet)) (length (a .heap)) (length (a .records)))

@@ -1,4 +1,4 @@
--- The checks P1 to P12 of document 01, as one table: buffer size 24. Assumes nothing.
+-- The worked cases P1 to P12, as one table: buffer size 24. Assumes nothing.
 use mathlib.Core.Path.{_≡_}
 use mathlib.Core.Bool.{Bool, true, false}
 use mathlib.Core.List.{List, [], _∷_, _++_}

@@ -1,5 +1,4 @@
--- "The ledger of demand 3": the calls, the ledger that is kept from their arguments and answers alone, a run of calls, and what holds after every run. Assumes
--- nothing.
+-- The calls, the ledger that is kept from their arguments and answers alone, a run of calls, and what holds after every run. Assumes nothing.
 use mathlib.Core.Path.{_≡_}
 use mathlib.Core.Logic.{_≢_, _↔_}
 use mathlib.Core.Bool.{Bool, true, false}
@@ -41,7 +40,7 @@ use Rattle.holding.specs.declared.show.Shown.the-variants as shown
 
 -- ---- the calls
 
--- "Allocate (size or whole, uptime, thread)", "Free (address, size or whole, uptime, thread)", "Store writes bytes at an offset": with any numbers
+-- K5 (allocate), K7 (free), K9 (store): with any numbers
 pub data Call : Type 0 where
   allocate : (q : Grant) (uptime thread : ℕ) → Call
   free : (address : ℕ) (q : Grant) (uptime thread : ℕ) → Call
@@ -53,7 +52,7 @@ Answer (allocate q uptime thread) = Allocated
 Answer (free address q uptime thread) = Outcome
 Answer (store address offset bytes) = Outcome
 
--- "each call refuses, answers and writes as "Calls" and the refusal table say"
+-- K and E: each call refuses, answers and writes as its own definition says
 abbrev pub resultOf : (call : Call) → Areas → Result (Answer call)
 resultOf (allocate q uptime thread) a = allocateOf a q uptime thread
 resultOf (free address q uptime thread) a = freeOf a address q uptime thread
@@ -61,12 +60,12 @@ resultOf (store address offset bytes) a = storeOf a address offset bytes
 
 -- ---- the ledger
 
--- what is known of a buffer that is out: its grant and its client bytes
+-- B2 (what is known of a buffer that is out: its grant and its client bytes)
 pub record Loan : Type 0 where
   pub grant : Grant
   pub client : List ℕ
 
--- "What is out, granted and stored, and how many calls were accepted": by its address, the loan of a buffer that is out, and none of any other
+-- B1 to B5 (the ledger): by its address the loan of a buffer that is out, and none of any other; and how many calls were accepted
 pub record Ledger : Type 0 where
   pub out : ℕ → Option Loan
   pub allocations : ℕ
@@ -76,27 +75,26 @@ pub record Ledger : Type 0 where
 unfoldable pub put : ℕ → Option Loan → (ℕ → Option Loan) → ℕ → Option Loan
 put a o f x = pick (eqb x a) o (f x)
 
--- "its grant is the size s asked for, or whole, and its client bytes are s bytes, or the whole buffer, as the grant's fill, the uninitialised pattern, leaves
--- them"
+-- B2 (the grant asked for, and its client bytes: ba dd ca fe repeated)
 abbrev pub fresh : ℕ → Grant → Loan
 fresh size q = record { grant = q; client = repeated (grantSize size q) grantFill }
 
--- "lays its bytes over the client bytes .., from its offset on"
+-- B3 (bytes over the client bytes, from the offset on)
 abbrev pub laidOver : ℕ → List ℕ → Option Loan → Option Loan
 laidOver offset bytes none = none
 laidOver offset bytes (some o) = some (record { grant = o .grant; client = sets (o .client) offset bytes })
 
--- "After an accepted allocate the buffer whose address it answered is out"; "A refused call changes nothing in the ledger"
+-- B2 (an accepted allocate), B5 (a refused call)
 abbrev pub noteAllocate : ℕ → Grant → Allocated → Ledger → Ledger
 noteAllocate size q (allocated.At a) l = record { out = put a (some (fresh size q)) (l .out); allocations = suc (l .allocations); frees = l .frees }
 noteAllocate size q (allocated.Refused why) l = l
 
--- "After an accepted free the buffer at its address is no longer out and has neither grant nor client bytes."
+-- B4 (an accepted free), B5
 abbrev pub noteFree : ℕ → Outcome → Ledger → Ledger
 noteFree address outcome.Done l = record { out = put address none (l .out); allocations = l .allocations; frees = suc (l .frees) }
 noteFree address (outcome.Refused why) l = l
 
--- "An accepted store lays its bytes over the client bytes of the buffer at its address, from its offset on."
+-- B3 (an accepted store), B5
 abbrev pub noteStore : ℕ → ℕ → List ℕ → Outcome → Ledger → Ledger
 noteStore address offset bytes outcome.Done l = record {
   out = put address (laidOver offset bytes (l .out address)) (l .out);
@@ -105,7 +103,7 @@ noteStore address offset bytes outcome.Done l = record {
 }
 noteStore address offset bytes (outcome.Refused why) l = l
 
--- "a ledger kept from the calls' arguments and their answers, never from a record or the heap"; `size` is that of the buffers, an argument of lay out
+-- B2 to B5, from what a call is given and what it answers alone; `size` is that of the buffers, an argument of lay out
 abbrev pub note : ℕ → (call : Call) → Answer call → Ledger → Ledger
 note size (allocate q uptime thread) answer l = noteAllocate size q answer l
 note size (free address q uptime thread) answer l = noteFree address answer l
@@ -117,7 +115,7 @@ pub record World : Type 0 where
   pub areas : Areas
   pub ledger : Ledger
 
--- "An accepted lay out opens it with no buffer out."
+-- B1 (an accepted lay out opens it)
 abbrev pub opened : Areas → World
 opened a = record { areas = a; ledger = record { out = λ x. none; allocations = 0; frees = 0 } }
 
@@ -128,14 +126,14 @@ step size call w = record {
   ledger = note size call (resultOf call (w .areas) .answer) (w .ledger);
 }
 
--- a list of calls, "which may be empty": each gets the areas as the one before left them
+-- a list of calls, which may be empty: each gets the areas as the one before left them
 unfoldable pub run : ℕ → List Call → World → World
 run size [] w = w
 run size (call ∷ calls) w = run size calls (step size call w)
 
 -- ---- what holds after every run
 
--- a sheet but for its head
+-- B6 (a sheet but for its head)
 abbrev pub headed : Sheet → ℕ → Sheet
 headed g head = record {
   cache = g .cache;
@@ -148,12 +146,12 @@ headed g head = record {
   flags = g .flags;
 }
 
--- "Found as granted is 1 for a whole grant and 2 with s for a grant of s bytes."
+-- J9 (found as granted: 1 whole, 2 with s)
 abbrev pub asGranted : Grant → Verdict
 asGranted grant.Whole = verdict.Whole
 asGranted (grant.Sized s) = verdict.Allocated s
 
--- "Found free is verdict 0"
+-- B8 (out: found as granted; not out: found free)
 abbrev pub asNoted : Option Loan → Verdict
 asNoted none = verdict.Free
 asNoted (some o) = asGranted (o .grant)
@@ -165,7 +163,7 @@ allocatedOne v = pick (isFoundAllocated (verdictNumber v)) 1 0
 abbrev pub foundAllocated : (ℕ → Verdict) → ℕ → ℕ
 foundAllocated v n = total (λ i. allocatedOne (v i)) n
 
--- how often the chain must meet the record of a buffer: once if it is not out, and not at all if it is
+-- B10 (how often the chain must meet the record of a buffer): once if it is not out, and not at all if it is
 abbrev pub timesMet : Option Loan → ℕ
 timesMet none = 1
 timesMet (some o) = 0
@@ -176,21 +174,21 @@ isOut (some o) = true
 
 -- the claim, of an image that was laid out with the numbers `laid`
 pub record Sound (laid : Sheet) (w : World) : Type 0 where
-  -- the image opens, and its sheet is the one laid out but for the head
+  -- B6: the image opens, and its sheet is the one laid out but for the head
   pub sheet : Sheet
   pub onlyHead : sheet ≡ headed laid (sheet .head)
   pub opens : openedOf (w .areas .sheet) (length (w .areas .heap)) (length (w .areas .records)) ≡ Image sheet
-  -- no buffer has a fault
+  -- B7: no buffer has a fault
   pub noFault : (i : ℕ) → i < laid .count → isFault (verdictNumber (verdictOf sheet (w .areas .heap) (w .areas .records) i)) ≡ false
-  -- the buffers found allocated are those that are out, each as last granted, and all others are found free
+  -- B8: the buffers found allocated are those that are out, each as last granted, and all others are found free
   pub found : (i : ℕ) → i < laid .count
       → verdictOf sheet (w .areas .heap) (w .areas .records) i ≡ asNoted (w .ledger .out (bufferAddress laid i))
   -- and what is out is a buffer
   pub buffers : (a : ℕ) → isOut (w .ledger .out a) ≡ true → (i : ℕ) × ((i < laid .count) × (a ≡ bufferAddress laid i))
-  -- the number found allocated is that of the accepted allocations less that of the accepted frees
+  -- B9: the number found allocated is that of the accepted allocations less that of the accepted frees
   pub count : w .ledger .allocations ≡ w .ledger .frees + foundAllocated (verdictOf sheet (w .areas .heap) (w .areas .records)) (laid .count)
-  -- the chain ends; it meets each buffer that is not out once, and one that is out not at all ("The chain meets a buffer when it meets the buffer's own
-  -- record."); and what it meets is the own record of such a buffer
+  -- B10: the chain ends; it meets the own record of each buffer that is not out once, and of one that is out not at all; and what it meets is the own
+  -- record of a buffer that is not out
   pub ends : imageChain sheet (w .areas .records) .ending ≡ End
   pub meets : (i : ℕ) → i < laid .count
       → (j : ℕ)
@@ -200,13 +198,13 @@ pub record Sound (laid : Sheet) (w : World) : Type 0 where
       → (i : ℕ)
       × ((i < laid .count)
       × ((ownOf (w .areas .records) (laid .count) (bufferAddress laid i) ≡ One j) × (w .ledger .out (bufferAddress laid i) ≡ none)))
-  -- Show answers the client bytes of a buffer that is out, and refuses one that is not
+  -- B11: show answers the client bytes of a buffer that is out, and refuses one that is not
   pub shows : (a : ℕ) (o : Loan) → w .ledger .out a ≡ some o
       → (at : ℕ) × ((len : ℕ) × ((shownOf (w .areas) a ≡ shown.Client at len) × (part (w .areas .heap) at len ≡ o .client)))
   pub hides : (i : ℕ) → i < laid .count → w .ledger .out (bufferAddress laid i) ≡ none
       → shownOf (w .areas) (bufferAddress laid i) ≡ shown.Refused NotAllocated
-  -- a request of lawful size, "an allocate that refusal 6 doesn't fit", is refused for want of room, "refusal 5", exactly when all buffers are out; else it is
-  -- accepted, with the address of a buffer that is not out
+  -- B12: a request of lawful size, which X6 does not fit, is refused for want of room, X5, exactly when all buffers are out; else it is accepted, with
+  -- the address of a buffer that is not out
   pub room : (q : Grant) (uptime thread : ℕ) → lawfulSize (laid .size) q ≡ true
       → (allocateOf (w .areas) q uptime thread .answer ≡ allocated.Refused NoRoom)
       ↔ ((i : ℕ) → i < laid .count → isOut (w .ledger .out (bufferAddress laid i)) ≡ true)
@@ -216,7 +214,7 @@ pub record Sound (laid : Sheet) (w : World) : Type 0 where
       × ((i < laid .count)
       × ((w .ledger .out (bufferAddress laid i) ≡ none) × (allocateOf (w .areas) q uptime thread .answer ≡ allocated.At (bufferAddress laid i))))
 
--- "a single claim about the whole list": after an accepted lay out, whose cache address is a word, and any calls
+-- B6 to B12, one claim about the whole list: after an accepted lay out, whose cache address is a word, and any calls
 abbrev pub Claim : Type 0
 Claim = (a : Areas) (cache heap records size n : ℕ) → cache < 4294967296 → layOutOf a cache heap records size n .answer ≡ outcome.Done
     → (calls : List Call)

@@ -1,4 +1,4 @@
--- The report's text as a list of bytes, in the words of document 01's "The report", and what becomes of an output. Assumes nothing.
+-- The report's text as a list of bytes, and what becomes of an output. Assumes nothing.
 use mathlib.Core.Path.{_≡_}
 use mathlib.Core.Bool.{Bool, _||_}
 use mathlib.Core.List.{List, [], _∷_, _++_}
@@ -24,7 +24,7 @@ abbrev pub ascii : String → List ℕ
 ascii none = []
 ascii (c then s) = code c ∷ ascii s
 
--- "decimals without leading zeros": the digits of n, where `fuel` is more than n
+-- G3 (decimal, without leading zeros): the digits of n, where `fuel` is more than n
 unfoldable pub decimalWith : ℕ → ℕ → List ℕ
 decimalWith zero n = []
 decimalWith (suc fuel) n = pick (ltb n 10) ((48 + n) ∷ []) (decimalWith fuel (n / 10) ++ ((48 + n % 10) ∷ []))
@@ -42,32 +42,32 @@ labelled word n = word ++ fieldOf n "\n"
 
 -- ---- lines
 
--- "A report's first line is always `heap report 1`."
+-- G4 (the first line)
 abbrev pub headerOf : List ℕ
 headerOf = ascii "heap report 1\n"
 
--- "for 25, 26 and 28, `I fault V OFFSET`"
+-- G5 (the faults with an offset)
 unfoldable pub hasOffset : ℕ → Bool
 hasOffset number = eqb number 25 || eqb number 26 || eqb number 28
 
--- "`I fault V` or, for 25, 26 and 28, `I fault V OFFSET`"
+-- G5 (a fault line: `I fault V OFFSET` or `I fault V`)
 unfoldable pub faultLineOf : ℕ → ℕ → ℕ → List ℕ
 faultLineOf i number value =
     pick (hasOffset number) (fieldOf i " fault " ++ fieldOf number " " ++ fieldOf value "\n") (fieldOf i " fault " ++ fieldOf number "\n")
 
--- "Buffer lines are `I free`, `I whole`, `I allocated S`", or that of a fault: the line of buffer i, whose verdict has this number and this value, its size or
--- its offset. Every verdict but 0, 1 and 2 is a fault: none has a number from 3 to 19.
+-- G5 (buffer lines: `I free`, `I whole`, `I allocated S`, or that of a fault): the line of buffer i, whose verdict has this number and this value, its
+-- size or its offset. Every verdict but 0, 1 and 2 is a fault: none has a number from 3 to 19.
 unfoldable pub lineOf : ℕ → ℕ → ℕ → List ℕ
 lineOf i number value =
     pick (eqb number 0) (fieldOf i " free\n")
     (pick (eqb number 1) (fieldOf i " whole\n")
     (pick (eqb number 2) (fieldOf i " allocated " ++ fieldOf value "\n") (faultLineOf i number value)))
 
--- the lines of buffers 0 to n - 1, "one line per item", where `number` and `value` tell each buffer's verdict
+-- G3 (a line for each buffer): those of buffers 0 to n - 1, where `number` and `value` tell each buffer's verdict
 abbrev pub linesOf : (ℕ → ℕ) → (ℕ → ℕ) → ℕ → List ℕ
 linesOf number value n = flat n (λ i. lineOf i (number i) (value i))
 
--- "The chain line is `chain K end`, `chain K broken` or `chain K again R`, K records met and R a record index."
+-- G6 (the chain line: `chain K end`, `chain K broken`, `chain K again R`)
 unfoldable pub chainLineOf : ℕ → Ending → List ℕ
 chainLineOf met End = ascii "chain " ++ fieldOf met " end\n"
 chainLineOf met Broken = ascii "chain " ++ fieldOf met " broken\n"
@@ -77,21 +77,21 @@ chainLineOf met (Again r) = ascii "chain " ++ fieldOf met " again " ++ fieldOf r
 abbrev pub faultOf : ℕ → ℕ
 faultOf number = pick (isFault number) 1 0
 
--- "`faults` counts fault lines only": how many of the first n there are
+-- G7 (the number of fault lines): how many of the first n there are
 abbrev pub faultsIn : (ℕ → ℕ) → ℕ → ℕ
 faultsIn number n = total (λ i. faultOf (number i)) n
 
--- the last line
+-- G7 (the last line)
 abbrev pub faultsOf : ℕ → List ℕ
 faultsOf count = labelled (ascii "faults ") count
 
--- "`refused N` and a line feed"
+-- G2 (`refused N` and a line feed)
 abbrev pub refusalLineOf : ℕ → List ℕ
 refusalLineOf number = labelled (ascii "refused ") number
 
 -- ---- the report
 
--- the report of n buffers, each with its verdict's number and value, and of a chain that met so many records and ended so
+-- G3 (the report): that of n buffers, each with its verdict's number and value, and of a chain that met so many records and ended so
 unfoldable pub textOf : (ℕ → ℕ) → (ℕ → ℕ) → ℕ → ℕ → Ending → List ℕ
 textOf number value n met ending = headerOf ++ linesOf number value n ++ chainLineOf met ending ++ faultsOf (faultsIn number n)
 
@@ -110,11 +110,11 @@ pub record Wrote (entry : List ℕ) (at : ℕ) (text exit : List ℕ) (next : �
   pub filled : next ≤ length entry → exit ≡ sets entry at text
   pub ends : next ≡ at + length text
 
--- all or nothing: "The call answers the length filled", or that the output is "shorter than the exact need"
+-- G8 (the length of the text is answered), X11 (the output is too short)
 abbrev pub writtenOf : List ℕ → List ℕ → Written
 writtenOf text output = pick (leb (length text) (length output)) (Length (length text)) Short
 
--- and "output past it stays"; an output that is too short stays as it was
+-- G8 (the output behind the text stays), E1 (an output that is too short stays as it was)
 abbrev pub outputOf : List ℕ → List ℕ → List ℕ
 outputOf text output = pick (leb (length text) (length output)) (sets output 0 text) output
 

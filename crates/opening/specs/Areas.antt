@@ -17,16 +17,16 @@ pub record Areas : Type 0 where
 abbrev pub areas : List ℕ → List ℕ → List ℕ → Areas
 areas sheet heap records = record { sheet = sheet; heap = heap; records = records }
 
--- what a call answers, and the areas afterwards
+-- K1 (all that a call writes): what it answers, and the areas afterwards
 pub record Result (A : Type 0) : Type 0 where
   pub answer : A
   pub areas : Areas
 
--- a refused call: "every lent byte is as before"
+-- E1 (a refused call leaves every lent byte)
 abbrev pub refusedWith : {A : Type 0} → A → Areas → Result A
 refusedWith answer a = record { answer = answer; areas = a }
 
--- the address and the chunk of buffer i, and the address of record j
+-- A1 (the address and the chunk of buffer i), A2 (the address of record j)
 abbrev pub bufferAddress : Sheet → ℕ → ℕ
 bufferAddress g i = placeAddress (g .heap) (g .chunk) i
 
@@ -36,7 +36,7 @@ chunkAt g heap i = part heap (i * g .chunk) (g .chunk)
 abbrev pub recordAddress : Sheet → ℕ → ℕ
 recordAddress g j = placeAddress (g .records) recordSize j
 
--- where the chain head stands in the sheet
+-- S2 (where the chain head stands in the sheet)
 abbrev pub headAt : ℕ
 headAt = 39
 

@@ -1,4 +1,4 @@
--- "Sheet and areas": the sheet's form, its numbers and their limits, and the opening of an image by the tests 1, 2 and 3. Assumes nothing.
+-- The sheet's form, its numbers and their limits, and the opening of an image by X1, X2 and X3. Assumes nothing.
 use mathlib.Core.Path.{_≡_}
 use mathlib.Core.Logic.{_⊎_}
 use mathlib.Core.Bool.{Bool, true, _&&_, _||_, not}
@@ -17,18 +17,18 @@ use Rattle.opening.specs.declared.sheet.Lengths.the-variants as lengths
 use Rattle.opening.specs.declared.sheet.Opened.{Opened}
 use Rattle.opening.specs.declared.sheet.Opened.the-variants.{Image, Refused}
 
--- ---- 1: the form
+-- ---- X1: the form
 
--- "tagged fields, a one-byte tag, a two-byte length, the body": the field at an offset has a tag and a length
+-- S1 (a field: tag, length, body): the field at an offset has a tag and a length
 unfoldable pub fieldIs : List ℕ → ℕ → ℕ → ℕ → Bool
 fieldIs s at tag len = eqb (numberAt 1 s at) tag && eqb (numberAt 2 s (at + 1)) len
 
--- a tag and the length of its body
+-- S2 (a field's tag and the length of its body)
 pub record Field : Type 0 where
   pub tag : ℕ
   pub len : ℕ
 
--- "Tags 1 to 8 stand once each, in order", with these lengths
+-- S2 (tags 1 to 8, in order, and their lengths)
 abbrev pub fields : List Field
 fields =
     record { tag = 1; len = 4 }
@@ -41,18 +41,18 @@ fields =
     ∷ record { tag = 8; len = 2 }
     ∷ []
 
--- the fields stand one after the other from an offset on
+-- S1 (one behind the other), from an offset on
 abbrev pub fieldsFrom : List Field → ℕ → List ℕ → Bool
 fieldsFrom [] at s = true
 fieldsFrom (f ∷ fs) at s = fieldIs s at (f .tag) (f .len) && fieldsFrom fs (at + (3 + f .len)) s
 
--- "The sheet is exactly 48 bytes", which the eight fields fill
+-- S1 (exactly 48 bytes), S2 (the fields): where this fails, X1
 unfoldable pub shaped : List ℕ → Bool
 shaped s = eqb (length s) 48 && fieldsFrom fields 0 s
 
 -- ---- the numbers
 
--- each body stands behind its tag and length
+-- S2 (where the bodies stand)
 unfoldable pub sheetOf : List ℕ → Sheet
 sheetOf s = record {
   cache = numberAt 4 s 3;
@@ -65,17 +65,16 @@ sheetOf s = record {
   flags = numberAt 2 s 46;
 }
 
--- "The heap area is n chunks. The record area is n records of 96 bytes"
+-- A1 (the heap is n chunks), A2 (the record area is n records of 96 bytes)
 abbrev pub heapLength : Sheet → ℕ
 heapLength g = g .count * g .chunk
 
 abbrev pub recordsLength : Sheet → ℕ
 recordsLength g = g .count * recordSize
 
--- ---- 2: the limits
+-- ---- X2: the limits
 
--- "Buffer size is a multiple of 8 from 8 to 4,096. Chunk size is buffer size plus 16. n is 1 to 512, and n times chunk size at most 65,536. Flags are
--- 0x020f."
+-- S3 (buffer size), S4 (chunk size), S5 (n, and the heap's length), S6 (flags)
 unfoldable pub sizesLawful : ℕ → ℕ → ℕ → ℕ → Bool
 sizesLawful size chunk n flags =
     eqb (size % 8) 0 && leb 8 size && leb size 4096
@@ -83,14 +82,14 @@ sizesLawful size chunk n flags =
     && leb 1 n && leb n 512 && leb (n * chunk) 65536
     && eqb flags 0x020f
 
--- "Both bases are non-zero multiples of 8; base plus area length is at most 2^32; the two address ranges share no address."
+-- S7 (bases: multiples of 8, not 0), S8 (areas end at 2^32 at most and share no address)
 unfoldable pub basesLawful : ℕ → ℕ → ℕ → ℕ → Bool
 basesLawful heap records heapLen recordsLen =
     not (eqb heap 0) && eqb (heap % 8) 0 && not (eqb records 0) && eqb (records % 8) 0
     && leb (heap + heapLen) 4294967296 && leb (records + recordsLen) 4294967296
     && (leb (heap + heapLen) records || leb (records + recordsLen) heap)
 
--- "Cache address and chain head may be any number."
+-- S9 (cache address and chain head are free): where this fails, X2
 unfoldable pub lawful : Sheet → Bool
 lawful g = sizesLawful (g .size) (g .chunk) (g .count) (g .flags) && basesLawful (g .heap) (g .records) (heapLength g) (recordsLength g)
 
@@ -118,13 +117,13 @@ pub record Lawful (g : Sheet) : Type 0 where
   pub sizes : Sizes (g .size) (g .chunk) (g .count) (g .flags)
   pub bases : Bases (g .heap) (g .records) (heapLength g) (recordsLength g)
 
--- ---- 3: the lengths, and the opening
+-- ---- X3: the lengths, and the opening
 
--- "heap or record area of wrong length"
+-- X3 (the lengths of A1 and A2)
 abbrev pub lengthsRight : Sheet → ℕ → ℕ → Bool
 lengthsRight g h r = eqb h (heapLength g) && eqb r (recordsLength g)
 
--- "Order: 1, 2, 3 always": the sheet's numbers, or the first refusal that holds, for areas of h and r bytes
+-- E3 (first X1, X2, X3): the sheet's numbers, or the first refusal that holds, for areas of h and r bytes
 unfoldable pub measured : Sheet → ℕ → ℕ → Opened
 measured g h r = pick (lengthsRight g h r) (Image g) (Refused BadLength)
 
@@ -139,7 +138,7 @@ abbrev pub onOpened {ℓ} : {A : Type ℓ} → Opened → (Sheet → A) → (Ref
 onOpened (Image g) f shut = f g
 onOpened (Refused why) f shut = shut why
 
--- "log not a multiple of 16 or over 16,384"; "3 tests the log where one is given"
+-- A4, X3 (the log: a multiple of 16, at most 16,384), E3 (X3 tests the log where one is given)
 abbrev pub logRight : ℕ → Bool
 logRight l = eqb (l % 16) 0 && leb l 16384
 
@@ -166,7 +165,7 @@ LoggedIf h r l (Refused why) = Unit {0}
 unfoldable pub areasOf : Sheet → Lengths
 areasOf g = pick (lawful g) (lengths.Areas (heapLength g) (recordsLength g)) (lengths.Refused BadNumber)
 
--- the tests 1 and 2, and then the lengths that 3 asks for
+-- K13 (area lengths): X1 and X2, and then the lengths that X3 asks for
 unfoldable pub lengthsOf : List ℕ → Lengths
 lengthsOf s = pick (shaped s) (areasOf (sheetOf s)) (lengths.Refused BadSheet)
 

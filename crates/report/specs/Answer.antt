@@ -13,7 +13,7 @@ use Rattle.lines.specs.declared.text.Written.the-variants as written
 use Rattle.report.specs.declared.answer.Reported.{Reported}
 use Rattle.report.specs.declared.answer.Reported.the-variants.{Length, Refused}
 
--- the text of an image: each buffer's verdict, the records that the chain meets and how it ends
+-- G3 (the text of an image): each buffer's verdict, the records that the chain meets and how it ends
 unfoldable pub reportText : Sheet → List ℕ → List ℕ → List ℕ
 reportText g heap records =
     textOf (λ i. verdictNumber (verdictOf g heap records i)) (λ i. verdictValue (verdictOf g heap records i)) (g .count)
@@ -23,7 +23,7 @@ pub record Reporting : Type 0 where
   pub answer : Reported
   pub output : List ℕ
 
--- "Inspect and report: 11": what is answered where a text was written, or had no room
+-- X11, E8 (report): what is answered where a text was written, or had no room
 abbrev pub reportedBy : Written → Reported
 reportedBy (written.Length n) = Length n
 reportedBy written.Short = Refused ShortOutput
@@ -32,7 +32,7 @@ reportedBy written.Short = Refused ShortOutput
 abbrev pub reporting : List ℕ → List ℕ → Reporting
 reporting text output = record { answer = reportedBy (writtenOf text output); output = outputOf text output }
 
--- the report's text, after the tests 1, 2 and 3 with the log
+-- E3 (X1, X2, X3 with the log), then the report's text
 unfoldable pub reportOf : List ℕ → List ℕ → List ℕ → ℕ → List ℕ → Reporting
 reportOf s heap records l output =
     onOpened (openedWithLog s (length heap) (length records) l)

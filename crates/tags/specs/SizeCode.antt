@@ -6,10 +6,10 @@ use Rattle.words.specs.Run.{pick}
 use Rattle.tags.specs.declared.size_code.Decoded.{Decoded}
 use Rattle.tags.specs.declared.size_code.Decoded.the-variants.{Size, Bad}
 
--- "A grant of s bytes .. puts .. 251*s+1 in R1."
+-- C7 (the size code of s)
 abbrev pub codeOf : ℕ → ℕ
 codeOf s = 251 * s + 1
 
--- "27 unless R1 mod 251 is 1 and R1/251 is 1 to buffer size. Then s = R1/251"
+-- C9 (a word is a size code): its remainder by 251 is 1 and its quotient, s, is 1 to `most`
 unfoldable pub decodedOf : ℕ → ℕ → Decoded
 decodedOf code most = pick (eqb (code % 251) 1 && (leb 1 (code / 251) && leb (code / 251) most)) (Size (code / 251)) Bad

@@ -1,4 +1,4 @@
--- The tag of a chunk: "The tag word T0 xor T1 has two named patterns, 0xa110c8ed when allocated and 0xf4eef4ee when free." Assumes nothing.
+-- The tag of a chunk. Assumes nothing.
 use Prim.Native.Nat.{ℕ}
 use lib.Bits.{bitXor}
 use lib.Dec.{eqb}
@@ -9,25 +9,26 @@ use Rattle.tags.specs.declared.tag.State.the-variants as state
 use Rattle.tags.specs.declared.tag.Pattern.{Pattern}
 use Rattle.tags.specs.declared.tag.Pattern.the-variants as pattern
 
+-- C2 (the two patterns)
 abbrev pub allocatedPattern : ℕ
 allocatedPattern = 0xa110c8ed
 
 abbrev pub freePattern : ℕ
 freePattern = 0xf4eef4ee
 
--- the pattern of a state
+-- C2 (the pattern of a state)
 abbrev pub stateWord : State → ℕ
 stateWord state.Free = freePattern
 stateWord state.Allocated = allocatedPattern
 
--- T0 is the record's address; T1 makes T0 xor T1 the state's pattern
+-- C2 (the tag): T0 is the record's address; T1 makes T0 xor T1 the state's pattern
 unfoldable pub tagOf : ℕ → State → Tag
 tagOf a s = record { t0 = a; t1 = bitXor a (stateWord s) }
 
--- which of the two patterns a word is
+-- C3 (the pattern that a word is)
 unfoldable pub patternWord : ℕ → Pattern
 patternWord x = pick (eqb x freePattern) pattern.Free (pick (eqb x allocatedPattern) pattern.Allocated pattern.Neither)
 
--- which of the two patterns T0 xor T1 is
+-- C3 (the pattern of T0 xor T1)
 unfoldable pub patternOf : Tag → Pattern
 patternOf t = patternWord (bitXor (t .t0) (t .t1))

@@ -1,11 +1,11 @@
--- The number and the value of each verdict, as document 01's "Verdicts" has them. Assumes nothing.
+-- The number and the value of each verdict. Assumes nothing.
 use mathlib.Core.Bool.{Bool, _||_}
 use Prim.Native.Nat.{ℕ}
 use lib.Dec.{eqb, leb}
 use Rattle.tags.specs.declared.verdict.Verdict.{Verdict}
 use Rattle.tags.specs.declared.verdict.Verdict.the-variants.{Free, Whole, Allocated, NotOneRecord, BadTag, FreedTwice, OffChain, OnChain, BadFill, BadRedzone, BadSizeCode, Overrun}
 
--- 0 free, 1 whole, 2 allocated s, and the faults 20 to 28
+-- V0 free, V1 whole, V2 allocated s, and the faults V20 to V28: the rule's number is the verdict's
 abbrev pub verdictNumber : Verdict → ℕ
 verdictNumber Free = 0
 verdictNumber Whole = 1
@@ -20,7 +20,7 @@ verdictNumber (BadRedzone o) = 26
 verdictNumber BadSizeCode = 27
 verdictNumber (Overrun o) = 28
 
--- the size of 2, the offset of 25, 26 and 28; any other verdict has none, which is told as 0
+-- J8 (the value): the size of 2, the offset of 25, 26 and 28; any other verdict has none, which is told as 0
 abbrev pub verdictValue : Verdict → ℕ
 verdictValue Free = 0
 verdictValue Whole = 0
@@ -37,14 +37,14 @@ verdictValue (Overrun o) = o
 
 -- ---- what a verdict says, by its number
 
--- a fault is a verdict of 20 or more
+-- J9 (a fault is a verdict of 20 or more)
 abbrev pub isFault : ℕ → Bool
 isFault number = leb 20 number
 
--- found free is 0
+-- J9 (found free is 0)
 abbrev pub isFoundFree : ℕ → Bool
 isFoundFree number = eqb number 0
 
--- found allocated is 1 or 2
+-- J9 (found allocated is 1 or 2)
 abbrev pub isFoundAllocated : ℕ → Bool
 isFoundAllocated number = eqb number 1 || eqb number 2

@@ -1,5 +1,4 @@
--- The chain: "The chain from a record is that record, then the chain from its next word. It starts at the head. It ends at 0, is broken at a word that is no
--- record's address, and is "again" at a record already met, which is not counted twice." Assumes nothing.
+-- The chain. Assumes nothing.
 use mathlib.Core.Path.{_≡_}
 use mathlib.Core.Logic.{_≢_}
 use mathlib.Core.List.{List, [], _∷_}
@@ -30,20 +29,19 @@ stop e = record { met = []; ending = e }
 abbrev pub meets : ℕ → Chain → Chain
 meets i c = record { met = i ∷ c .met; ending = c .ending }
 
--- The rule itself, of any `chain` that is told which records are met already and from which word to go on; `next j` is the next word of record j, and `at w`
--- the record whose address w is.
+-- The rule itself, of any `chain` that is told which records are met already and from which word to go on; `next j` is the next word of record j, and
+-- `at w` the record whose address w is.
 pub record ChainRule (next : ℕ → ℕ) (at : ℕ → Place) (chain : List ℕ → ℕ → Chain) : Type 0 where
-  -- "It ends at 0,"
+  -- H2 (the end)
   pub ends : (seen : List ℕ) → chain seen 0 ≡ stop End
-  -- "is broken at a word that is no record's address,"
+  -- H3 (broken)
   pub breaks : (seen : List ℕ) (w : ℕ) → w ≢ 0 → at w ≡ Nowhere → chain seen w ≡ stop Broken
-  -- "and is "again" at a record already met, which is not counted twice."
+  -- H4 ("again")
   pub comes-back : (seen : List ℕ) (w i : ℕ) → w ≢ 0 → at w ≡ At i → occ i seen ≢ 0 → chain seen w ≡ stop (Again i)
-  -- Else it "is that record, then the chain from its next word."
+  -- H5 (a record is met)
   pub goes-on : (seen : List ℕ) (w i : ℕ) → w ≢ 0 → at w ≡ At i → occ i seen ≡ 0 → chain seen w ≡ meets i (chain (i ∷ seen) (next i))
 
--- What meets the rule. The chain from the word w, where the records `seen` are met already, `next j` is the next word of record j and `at w` the record whose address w is. The
--- first argument only bounds the number of steps: with one more of them than there are records no chain runs out (`chain-rule`).
+-- The chain that meets the rule (`chain-rule`). The first number only bounds the steps: with one more than there are records (H6) no chain runs out.
 unfoldable pub chainFrom : (ℕ → ℕ) → (ℕ → Place) → ℕ → List ℕ → ℕ → Chain
 chainFrom next at zero seen w = stop Broken
 chainFrom next at (suc k) seen w =
@@ -54,6 +52,6 @@ chainFrom next at (suc k) seen w =
 unfoldable pub chainAfter : List ℕ → ℕ → ℕ → List ℕ → ℕ → Chain
 chainAfter records base n seen w = chainFrom (nextWord records) (placeOf base recordSize n) (suc n) seen w
 
--- "It starts at the head.": the whole chain
+-- H1 (it starts at the head): the whole chain
 unfoldable pub chainOf : List ℕ → ℕ → ℕ → ℕ → Chain
 chainOf records base n head = chainAfter records base n [] head

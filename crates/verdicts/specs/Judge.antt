@@ -1,4 +1,4 @@
--- "Verdicts, first rule that holds". Assumes nothing.
+-- The verdict on a buffer: J2 (the first rule that holds). Assumes nothing.
 use mathlib.Core.Bool.{Bool, true, false, _&&_, not}
 use mathlib.Core.List.{List}
 use Prim.Native.Nat.{ℕ}
@@ -35,42 +35,42 @@ isNeither pattern.Free = false
 isNeither pattern.Allocated = false
 isNeither pattern.Neither = true
 
--- the rules from 21 on that ask for the pattern p of the chunk c, which is neither for 21; the record is met by the chain or not, and the chain is "again" at it or not
+-- V21 (neither pattern) and the rules after it, for the pattern p of the chunk c; the record is met by the chain or not, the chain is "again" at it or not
 unfoldable pub chainedVerdict : List ℕ → Pattern → Bool → Bool → Verdict
 chainedVerdict c p met again =
     pick (isNeither p) BadTag
-    -- "22: the chain is "again" at its record (freed twice)."
+    -- V22 (the chain is "again" at its record: freed twice)
     (pick again FreedTwice
-    -- "23: free pattern, record not met by the chain."
+    -- V23 (free, and off the chain)
     (pick (isFree p && not met) OffChain
-    -- "24: allocated pattern, record met by the chain."
+    -- V24 (allocated, and on the chain)
     (pick (isAllocated p && met) OnChain
-    -- 25 and 26, or free; 27 and 28, or whole, or allocated s
+    -- J3: V25, V26, V0; J4, J5: V27, V28, V1, V2
     (pick (isFree p) (freeVerdict c) (allocatedVerdict c)))))
 
--- "21: T0 isn't its own record's address, or the xor is neither pattern.", for a record at the address a
+-- V21 (T0 is not the own record's address), for a record at the address a
 unfoldable pub ownedVerdict : List ℕ → ℕ → Bool → Bool → Verdict
 ownedVerdict c a met again = pick (eqb (tagAt c .t0) a) (chainedVerdict c (patternOf (tagAt c)) met again) BadTag
 
--- the chain is "again" at record j
+-- H4 (the chain is "again" at record j)
 abbrev pub againAt : Ending → ℕ → Bool
 againAt End j = false
 againAt Broken j = false
 againAt (Again i) j = eqb i j
 
--- "20: not exactly one record names it."; the verdict on buffer i, given its own record, which records the chain met, and how it ends
+-- V20 (not exactly one record names it): the verdict on buffer i, given its own record, which records the chain met, and how it ends
 unfoldable pub judged : List ℕ → Sheet → ℕ → Own → (ℕ → Bool) → Ending → Verdict
 judged heap g i own met ending = byOwn own (λ j. ownedVerdict (chunkAt g heap i) (recordAddress g j) (met j) (againAt ending j)) NotOneRecord
 
--- the chain of an image
+-- H1 (the chain of an image)
 abbrev pub imageChain : Sheet → List ℕ → Chain
 imageChain g records = chainOf records (g .records) (g .count) (g .head)
 
--- record j is met by a chain
+-- H5 (record j is met by a chain)
 abbrev pub metBy : Chain → ℕ → Bool
 metBy c j = not (eqb (occ j (c .met)) 0)
 
--- the verdict on buffer i of an image
+-- J2 (the verdict on buffer i of an image)
 unfoldable pub verdictOf : Sheet → List ℕ → List ℕ → ℕ → Verdict
 verdictOf g heap records i =
     judged heap g i (ownOf records (g .count) (bufferAddress g i)) (metBy (imageChain g records)) (imageChain g records .ending)

@@ -1,4 +1,4 @@
--- "A buffer's own record is the one record whose address word names the buffer. .. pairing is read, never assumed." Assumes nothing.
+-- J1 (a buffer's own record). Assumes nothing.
 use mathlib.Core.Path.{_≡_}
 use mathlib.Core.List.{List, [], _∷_}
 use Prim.Native.Nat.{ℕ, zero, suc, _+_, _-_, _<_}
@@ -23,7 +23,7 @@ theOne [] = NotOne
 theOne (j ∷ []) = One j
 theOne (j ∷ (k ∷ l)) = NotOne
 
--- the own record, of n, of the buffer at an address
+-- J1 (the own record), of n, of the buffer at an address
 unfoldable pub ownOf : List ℕ → ℕ → ℕ → Own
 ownOf records n a = theOne (namers (addressWord records) n a)
 

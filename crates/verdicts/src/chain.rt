@@ -33,8 +33,8 @@ fn pack(met: u64, word: u32) -> u64
     met * WORD_VALUES + (word as u64)
 }
 
-// The chain from `word`, where the marks say which records are met already, `met` of them. "The walk calls itself from the
-// next word; the number of records not yet met falls." That word is read at the record's own address, which `word` is.
+// The chain from `word` (H2 to H5), where the marks say which records are met already, `met` of them. It calls itself from the
+// next word, with one record fewer that is not yet met. That word is read at the record's own address, which `word` is.
 // No slice, struct or enum goes into that call or comes out of it, so that it is compiled to a loop.
 fn walk(records: &&[u8], base: u32, n: usize, word: u32, marks: &mut [u8; 512], met: u64) -> u64
     requires { ⌜ n * recordSize ≤ length (now (now records)) ⌝ }

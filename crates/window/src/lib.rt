@@ -1,4 +1,4 @@
-// An address window: a base address together with the lent bytes it stands for. "A word partly outside it is no word."
+// An address window (A6): a base address and the lent bytes that stand from there on; a word partly outside is no word.
 // The functions over the struct only make it or take it apart; `word_in` and `byte_in` read. A caller that holds the bytes
 // and the base by themselves asks `read_word`.
 ghost use mathlib.Core.Path.{_≡_};

@@ -13,7 +13,7 @@ abbrev pub pick : {A : Type 0} → Bool → A → A → A
 pick true a b = a
 pick false a b = b
 
--- n bytes of the word w again and again: byte i is byte i mod 4 of w
+-- W3 (a run that repeats a word): n bytes of the word w again and again, byte i is byte i mod 4 of w
 unfoldable pub repeated : ℕ → ℕ → List ℕ
 repeated zero w = []
 repeated (suc i) w = repeated i w ++ (getD (bytesOf 4 w) (i % 4) 0 ∷ [])
@@ -24,6 +24,6 @@ differenceFrom k [] ys = Nowhere
 differenceFrom k (x ∷ xs) [] = At k
 differenceFrom k (x ∷ xs) (y ∷ ys) = pick (eqb x y) (differenceFrom (suc k) xs ys) (At k)
 
--- the first place at which `xs` and `ys` differ
+-- J7 (the first byte that differs): the first place at which `xs` and `ys` differ
 abbrev pub difference : List ℕ → List ℕ → Difference
 difference xs ys = differenceFrom 0 xs ys

@@ -1,4 +1,4 @@
--- Parts of a list of bytes, and numbers in bytes. "All numbers are big-endian." Assumes nothing.
+-- Parts of a list of bytes, and numbers in bytes. Assumes nothing.
 use mathlib.Core.List.{List, [], _∷_, _++_}
 use Prim.Native.Nat.{ℕ, zero, suc, _+_, _*_, _/_, _%_, _^_}
 use lib.ListN.{length, take, drop}
@@ -12,7 +12,7 @@ unfoldable pub flat : ℕ → (ℕ → List ℕ) → List ℕ
 flat zero f = []
 flat (suc n) f = flat n f ++ f n
 
--- The byte order: `number` and `bytesOf`, and nothing else, say which byte of a number comes first.
+-- W1 (the highest byte first): `number` and `bytesOf`, and nothing else, say which byte of a number comes first.
 
 -- the number of some bytes, the first byte the highest
 unfoldable pub number : List ℕ → ℕ
