@@ -6,22 +6,31 @@
 
 mod allocate;
 mod answer;
+mod fault;
+mod ffi;
+mod finding;
 mod free;
 mod grant;
 mod inspect;
 mod latest;
 mod lay_out;
+mod refusal;
 mod report;
 mod show;
 mod store;
+mod verdict;
 
 pub use allocate::{allocate, allocate_answer};
-pub use answer::{Answer, Refusal};
+pub use answer::Answer;
+pub use fault::Fault;
+pub use finding::{Finding, Findings};
 pub use free::{free, free_answer};
 pub use grant::Grant;
 pub use inspect::{inspect, inspect_answer};
 pub use latest::{latest, latest_answer, Latest};
 pub use lay_out::{lay_out, lay_out_answer};
+pub use refusal::Refusal;
 pub use report::{report, report_answer};
 pub use show::{show, show_answer};
 pub use store::{store, store_answer};
+pub use verdict::Verdict;

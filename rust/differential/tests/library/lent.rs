@@ -3,7 +3,6 @@
 use std::fmt::Display;
 use std::hint::black_box;
 
-use combgallop::{Answer, Refusal};
 use differential::{Image, Sequence};
 
 const GUARD: u8 = 0xc3;
@@ -82,21 +81,5 @@ impl Lent {
         let records_agree = self.records.holds(&image.records);
         assert!(records_agree, "records differ: {story}");
         assert!(self.log.holds(&image.log), "log differs: {story}");
-    }
-}
-
-/// The answer that the library must give where the reference gives this.
-pub fn expected_answer(value: Result<u32, reference::Refusal>) -> Answer {
-    Answer(match value {
-        Ok(value) => u64::from(value) << 32,
-        Err(refusal) => u64::from(refusal.number) | u64::from(refusal.detail) << 8,
-    })
-}
-
-/// The reference's refusal, as the library's type has it.
-pub fn expected_refusal(refusal: reference::Refusal) -> Refusal {
-    Refusal {
-        number: refusal.number,
-        detail: refusal.detail,
     }
 }

@@ -3,6 +3,7 @@
 
 mod calls;
 mod counts;
+mod expected;
 mod inspect;
 mod latest;
 mod lent;
