@@ -108,6 +108,7 @@ impl Error for Refusal {}
 
 #[cfg(test)]
 mod tests {
+    use std::collections::BTreeSet;
     use std::error::Error;
 
     use super::Refusal;
@@ -177,19 +178,17 @@ mod tests {
         );
     }
 
-    /// Its words start with number and detail, and no two refusals have the same.
+    /// No two refusals have the same words, and each has its number in them.
     #[test]
     fn words_of_every_refusal() {
-        let mut met = Vec::new();
+        let texts: BTreeSet<String> = TABLE.map(|row| row.2.to_string()).into();
+        assert_eq!(texts.len(), TABLE.len());
         for (number, detail, refusal) in TABLE {
-            let text = refusal.to_string();
-            let (start, meaning) = text.split_once(": ").expect("a colon");
-            match detail {
-                0 => assert_eq!(start, format!("refusal {number}")),
-                _ => assert_eq!(start, format!("refusal {number}, detail {detail}")),
-            }
-            assert!(!met.contains(&meaning.to_string()), "{text}");
-            met.push(meaning.to_string());
+            let start = match detail {
+                0 => format!("refusal {number}: "),
+                _ => format!("refusal {number}, detail {detail}: "),
+            };
+            assert!(refusal.to_string().starts_with(&start), "{refusal}");
         }
     }
 }

@@ -10,7 +10,7 @@ use reference::{chain, Finding, Refusal};
 
 use crate::counts::{Counts, Met, ENDINGS, EXTREMES, READ_REFUSALS, VERDICTS};
 use crate::expected::{expected_answer, expected_finding, expected_refusal, put_rows};
-use crate::lent::{Guarded, Lent};
+use crate::lent::{numbered, Guarded, Lent};
 
 const CASES: u64 = 60_000;
 const SEED: u64 = 0x1d5b_ec71;
@@ -27,7 +27,7 @@ fn compare(
     let mut findings = vec![Finding::default(); room / 3];
     let expected = reference::inspect(sheet, heap, records, &mut findings);
     findings.truncate(expected.unwrap_or(0));
-    let pattern: Vec<u32> = (0..room as u32).map(|at| 0xa5a5_0000 + at).collect();
+    let pattern = numbered(0xa5a5_0000, room);
     let mut expected_rows = pattern.clone();
     put_rows(&mut expected_rows, &findings);
 

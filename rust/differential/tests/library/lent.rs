@@ -49,6 +49,11 @@ impl<T: Copy + PartialEq + From<u8>> Guarded<T> {
     }
 }
 
+/// What stands in lent numbers before a call: each is one more than the one before it.
+pub fn numbered(first: u32, length: usize) -> Vec<u32> {
+    (first..).take(length).collect()
+}
+
 /// The areas and the log of an image, as a call is lent them.
 pub struct Lent {
     pub sheet: Guarded<u8>,
