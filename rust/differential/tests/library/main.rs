@@ -7,4 +7,5 @@ mod expected;
 mod inspect;
 mod latest;
 mod lent;
+mod long;
 mod report;
