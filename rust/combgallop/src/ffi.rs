@@ -1,7 +1,14 @@
-//! The C functions of the library, in the order and with the names of its header. Each
-//! area is a pointer, which is never null, and then its length in elements.
+//! The C functions of the library, as its header declares them. Each area is a pointer,
+//! which is never null, and then its length in elements.
 
 extern "C" {
+    pub fn cg_area_lengths(
+        sheet: *const u8,
+        sheet_length: usize,
+        lengths: *mut u32,
+        lengths_length: usize,
+    ) -> u64;
+
     pub fn cg_inspect(
         sheet: *const u8,
         sheet_length: usize,
@@ -11,6 +18,21 @@ extern "C" {
         records_length: usize,
         rows: *mut u32,
         rows_length: usize,
+    ) -> u64;
+
+    pub fn cg_survey(
+        sheet: *const u8,
+        sheet_length: usize,
+        heap: *const u8,
+        heap_length: usize,
+        records: *const u8,
+        records_length: usize,
+        log: *const u8,
+        log_length: usize,
+        rows: *mut u32,
+        rows_length: usize,
+        chain: *mut u32,
+        chain_length: usize,
     ) -> u64;
 
     pub fn cg_latest(

@@ -2,6 +2,12 @@
 
 use combgallop::{Answer, Fault, Finding, Refusal, Verdict};
 
+/// Refusal 11, "output shorter than the exact need".
+pub const SHORT_OUTPUT: reference::Refusal = reference::Refusal {
+    number: 11,
+    detail: 0,
+};
+
 /// All 64 bits of an answer.
 pub fn expected_answer(value: Result<u32, reference::Refusal>) -> Answer {
     Answer(match value {

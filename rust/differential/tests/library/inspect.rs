@@ -10,7 +10,7 @@ use reference::{chain, Finding, Refusal};
 
 use crate::counts::{Counts, Met, ENDINGS, EXTREMES, READ_REFUSALS, VERDICTS};
 use crate::expected::{expected_answer, expected_finding, expected_refusal, put_rows};
-use crate::lent::{numbered, Guarded, Lent};
+use crate::lent::{numbered, some_room, Guarded, Lent};
 
 const CASES: u64 = 60_000;
 const SEED: u64 = 0x1d5b_ec71;
@@ -51,17 +51,6 @@ fn compare(
     expected.map(|_| findings)
 }
 
-/// Mostly the exact room or more, now and then less.
-fn some_room(image: &Image, sequence: &mut Sequence) -> usize {
-    let exact = 3 * image.shape.count;
-    match sequence.below(12) {
-        0 => sequence.below(exact),
-        1 => exact - 1,
-        2..=5 => exact,
-        _ => exact + sequence.between(1, 40),
-    }
-}
-
 fn note(counts: &mut Counts, image: &Image, found: Result<Vec<Finding>, Refusal>) {
     let findings = match found {
         Ok(findings) => findings,
@@ -81,7 +70,7 @@ fn hurt_images() {
     let mut counts = Counts::default();
     for number in 0..CASES {
         let (case, mut sequence) = Case::new(SEED, number);
-        let room = some_room(&case.image, &mut sequence);
+        let room = some_room(3 * case.image.shape.count, &mut sequence);
         let found = compare(&case.image, room, &mut sequence, &case);
         note(&mut counts, &case.image, found);
         for name in case.hurts {

@@ -1,6 +1,7 @@
 //! The verified library and the reference answer alike, and leave every lent byte
 //! alike.
 
+mod area_lengths;
 mod calls;
 mod counts;
 mod expected;
@@ -9,3 +10,4 @@ mod latest;
 mod lent;
 mod long;
 mod report;
+mod survey;
