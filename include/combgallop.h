@@ -121,6 +121,16 @@ static inline uint32_t cg_value(uint64_t answer)
 #define CG_RECORD_MARK 0x80000000u
 
 /*
+ * Tells how long the areas of a sheet have to be. Fills two numbers: the length of the
+ * heap and that of the records, in bytes. Numbers past those stay as they are.
+ *
+ * Value: 0.
+ * Refusals: 1, 2; 11 when lengths_length is below 2.
+ */
+uint64_t cg_area_lengths(const uint8_t *sheet, size_t sheet_length,
+                         uint32_t *lengths, size_t lengths_length);
+
+/*
  * Judges every buffer. Fills three numbers for each, in the order of the buffers: its
  * index, its verdict's number, and the verdict's size (verdict 2) or offset (25, 26
  * and 28), else 0. Numbers past those stay as they are.
@@ -132,6 +142,22 @@ uint64_t cg_inspect(const uint8_t *sheet, size_t sheet_length,
                     const uint8_t *heap, size_t heap_length,
                     const uint8_t *records, size_t records_length,
                     uint32_t *rows, size_t rows_length);
+
+/*
+ * Judges every buffer and walks the chain. Fills `rows` as cg_inspect does, and three
+ * numbers of `chain`: how many records the chain meets; 0 when it ends, 1 when it is
+ * broken, 2 when it comes back to a record already met; and the index of that record,
+ * else 0. Numbers past those stay as they are.
+ *
+ * Value: the count of buffers n.
+ * Refusals: 1, 2, 3; 11 when rows_length is below three times n or chain_length below 3.
+ */
+uint64_t cg_survey(const uint8_t *sheet, size_t sheet_length,
+                   const uint8_t *heap, size_t heap_length,
+                   const uint8_t *records, size_t records_length,
+                   const uint8_t *log, size_t log_length,
+                   uint32_t *rows, size_t rows_length,
+                   uint32_t *chain, size_t chain_length);
 
 /*
  * Finds the latest transaction of the buffer with an index, at the uptime `now`: the

@@ -1,21 +1,6 @@
 //! The grant of a buffer.
 
-use crate::{Answer, Grant, Refusal};
-
-extern "C" {
-    fn cg_allocate(
-        sheet: *mut u8,
-        sheet_length: usize,
-        heap: *mut u8,
-        heap_length: usize,
-        records: *mut u8,
-        records_length: usize,
-        whole: bool,
-        size: u32,
-        uptime: u32,
-        thread: u32,
-    ) -> u64;
-}
+use crate::{ffi, Answer, Grant, Refusal};
 
 /// Grants the buffer of the chain's first record and answers its address. A refusal
 /// changes nothing.
@@ -43,7 +28,7 @@ pub fn allocate_answer(
     // SAFETY: each pointer comes with the length of its own slice, and nothing else
     // can reach the three areas before the call returns.
     let answer = unsafe {
-        cg_allocate(
+        ffi::cg_allocate(
             sheet.as_mut_ptr(),
             sheet.len(),
             heap.as_mut_ptr(),

@@ -1,11 +1,8 @@
 //! The one number that every call answers.
 
-/// Why a call was refused: the rule's number, and for number 7 the damage met.
-#[derive(Clone, Copy, PartialEq, Eq, Debug)]
-pub struct Refusal {
-    pub number: u8,
-    pub detail: u8,
-}
+use std::fmt::Debug;
+
+use crate::Refusal;
 
 /// Bits 0 to 7 are the refusal's number, 0 when accepted; bits 8 to 15 its detail;
 /// bits 32 to 63 the value. The other bits are 0, and so is the value of a refusal.
@@ -15,13 +12,12 @@ pub struct Answer(pub u64);
 impl Answer {
     /// The value of an accepted call, or why it was refused.
     pub fn value(self) -> Result<u32, Refusal> {
-        match self.0 as u8 {
-            0 => Ok((self.0 >> 32) as u32),
-            number => Err(Refusal {
-                number,
-                detail: (self.0 >> 8) as u8,
-            }),
+        let [number, detail, ..] = self.0.to_le_bytes();
+        if number == 0 {
+            return Ok((self.0 >> 32) as u32);
         }
+        let refusal = Refusal::from_numbers(number, detail);
+        Err(named(refusal, "refusal", [number, detail]))
     }
 
     /// Why the call was refused, for one whose value says nothing.
@@ -30,9 +26,20 @@ impl Answer {
     }
 }
 
+/// What numbers that the library gave stand for. It gives only numbers that the rules
+/// name; any other would mean that the archive linked is not this library's, and that
+/// none of its answers can be used.
+pub(crate) fn named<T>(meaning: Option<T>, what: &str, numbers: impl Debug) -> T {
+    match meaning {
+        Some(meaning) => meaning,
+        None => panic!("the library answered {what} {numbers:?}, which no rule names"),
+    }
+}
+
 #[cfg(test)]
 mod tests {
-    use super::{Answer, Refusal};
+    use super::Answer;
+    use crate::{Fault, Refusal};
 
     #[test]
     fn value_of_an_accepted_call() {
@@ -42,10 +49,15 @@ mod tests {
 
     #[test]
     fn number_and_detail_of_a_refusal() {
-        let damage = Refusal {
-            number: 7,
-            detail: 20,
-        };
+        let damage = Refusal::Damage(Fault::NotOneRecord);
         assert_eq!(Answer(0x1407).value(), Err(damage));
+        assert_eq!(Answer(0x1d07).value(), Err(Refusal::BrokenHead));
+        assert_eq!(Answer(12).value(), Err(Refusal::WideStamp));
+    }
+
+    #[test]
+    #[should_panic(expected = "refusal [13, 0], which no rule names")]
+    fn number_of_no_refusal() {
+        let _ = Answer(13).value();
     }
 }

@@ -1,22 +1,6 @@
 //! The return of a buffer.
 
-use crate::{Answer, Grant, Refusal};
-
-extern "C" {
-    fn cg_free(
-        sheet: *mut u8,
-        sheet_length: usize,
-        heap: *mut u8,
-        heap_length: usize,
-        records: *mut u8,
-        records_length: usize,
-        address: u32,
-        whole: bool,
-        size: u32,
-        uptime: u32,
-        thread: u32,
-    ) -> u64;
-}
+use crate::{ffi, Answer, Grant, Refusal};
 
 /// Takes back the buffer at an address, with the grant it was handed out with; its
 /// record becomes the chain's first. A refusal changes nothing.
@@ -46,7 +30,7 @@ pub fn free_answer(
     // SAFETY: each pointer comes with the length of its own slice, and nothing else
     // can reach the three areas before the call returns.
     let answer = unsafe {
-        cg_free(
+        ffi::cg_free(
             sheet.as_mut_ptr(),
             sheet.len(),
             heap.as_mut_ptr(),

@@ -1,21 +1,6 @@
 //! The latest transaction of a buffer.
 
-use crate::{Answer, Refusal};
-
-extern "C" {
-    fn cg_latest(
-        sheet: *const u8,
-        sheet_length: usize,
-        heap: *const u8,
-        heap_length: usize,
-        records: *const u8,
-        records_length: usize,
-        log: *const u8,
-        log_length: usize,
-        index: u32,
-        now: u32,
-    ) -> u64;
-}
+use crate::{ffi, Answer, Refusal};
 
 /// What a record's index is added to in the answer, which sets it apart from a row.
 const RECORD_MARK: u32 = 0x8000_0000;
@@ -55,7 +40,7 @@ pub fn latest_answer(
 ) -> Answer {
     // SAFETY: each pointer comes with the length of its own slice.
     let answer = unsafe {
-        cg_latest(
+        ffi::cg_latest(
             sheet.as_ptr(),
             sheet.len(),
             heap.as_ptr(),

@@ -1,22 +1,6 @@
 //! A fresh image.
 
-use crate::{Answer, Refusal};
-
-extern "C" {
-    fn cg_lay_out(
-        cache: u32,
-        heap_base: u32,
-        record_base: u32,
-        size: u32,
-        count: u32,
-        sheet: *mut u8,
-        sheet_length: usize,
-        heap: *mut u8,
-        heap_length: usize,
-        records: *mut u8,
-        records_length: usize,
-    ) -> u64;
-}
+use crate::{ffi, Answer, Refusal};
 
 /// Writes all three areas: `count` free buffers of `size` bytes, buffer i paired with
 /// record i, and the chain through them in order. A refusal changes nothing.
@@ -57,7 +41,7 @@ pub fn lay_out_answer(
     // SAFETY: each pointer comes with the length of its own slice, and nothing else
     // can reach the three areas before the call returns.
     let answer = unsafe {
-        cg_lay_out(
+        ffi::cg_lay_out(
             cache,
             heap_base,
             record_base,

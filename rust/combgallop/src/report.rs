@@ -1,21 +1,6 @@
 //! The report of an image.
 
-use crate::{Answer, Refusal};
-
-extern "C" {
-    fn cg_report(
-        sheet: *const u8,
-        sheet_length: usize,
-        heap: *const u8,
-        heap_length: usize,
-        records: *const u8,
-        records_length: usize,
-        log: *const u8,
-        log_length: usize,
-        output: *mut u8,
-        output_length: usize,
-    ) -> u64;
-}
+use crate::{ffi, Answer, Refusal};
 
 /// Fills the start of `output` with the report's text and answers its length; bytes
 /// past it stay. A refusal changes nothing.
@@ -41,7 +26,7 @@ pub fn report_answer(
     // SAFETY: each pointer comes with the length of its own slice, and nothing else
     // can reach `output` before the call returns.
     let answer = unsafe {
-        cg_report(
+        ffi::cg_report(
             sheet.as_ptr(),
             sheet.len(),
             heap.as_ptr(),

@@ -1,18 +1,6 @@
 //! What a client has written.
 
-use crate::{Answer, Refusal};
-
-extern "C" {
-    fn cg_show(
-        sheet: *const u8,
-        sheet_length: usize,
-        heap: *const u8,
-        heap_length: usize,
-        records: *const u8,
-        records_length: usize,
-        address: u32,
-    ) -> u64;
-}
+use crate::{ffi, Answer, Refusal};
 
 /// Hands back the client's bytes of the buffer at an address, as a part of the heap.
 pub fn show<'a>(
@@ -37,7 +25,7 @@ fn heap_base(sheet: &[u8]) -> u32 {
 pub fn show_answer(sheet: &[u8], heap: &[u8], records: &[u8], address: u32) -> Answer {
     // SAFETY: each pointer comes with the length of its own slice.
     let answer = unsafe {
-        cg_show(
+        ffi::cg_show(
             sheet.as_ptr(),
             sheet.len(),
             heap.as_ptr(),

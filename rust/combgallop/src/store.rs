@@ -1,21 +1,6 @@
 //! What a client writes.
 
-use crate::{Answer, Refusal};
-
-extern "C" {
-    fn cg_store(
-        sheet: *const u8,
-        sheet_length: usize,
-        heap: *mut u8,
-        heap_length: usize,
-        records: *const u8,
-        records_length: usize,
-        address: u32,
-        offset: u32,
-        bytes: *const u8,
-        bytes_length: usize,
-    ) -> u64;
-}
+use crate::{ffi, Answer, Refusal};
 
 /// Writes bytes at an offset in the client's bytes of the buffer at an address. A
 /// refusal changes nothing.
@@ -42,7 +27,7 @@ pub fn store_answer(
     // SAFETY: each pointer comes with the length of its own slice, and nothing else
     // can reach `heap` before the call returns.
     let answer = unsafe {
-        cg_store(
+        ffi::cg_store(
             sheet.as_ptr(),
             sheet.len(),
             heap.as_mut_ptr(),

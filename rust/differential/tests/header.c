@@ -13,6 +13,74 @@ static void print_answer(const char *name, uint64_t answer)
            (unsigned)cg_detail(answer), cg_value(answer));
 }
 
+static void print_numbers(const char *name, const uint32_t *numbers, size_t count)
+{
+    size_t at;
+
+    printf("%s", name);
+    for (at = 0; at < count; at++)
+        printf(" %" PRIu32, numbers[at]);
+    printf("\n");
+}
+
+/* The dump's image, whose parts stand one behind the other. */
+enum { IMAGE = SHEET + HEAP + RECORDS };
+
+static uint8_t image[IMAGE];
+
+/* Where the last byte of the flags stands, and the next word of record 0. */
+enum { FLAGS_END = 47, LAST_NEXT = SHEET + HEAP };
+
+static void area_lengths(size_t sheet_length, size_t room)
+{
+    uint32_t lengths[3] = {7, 7, 7};
+
+    print_answer("area lengths", cg_area_lengths(image, sheet_length, lengths, room));
+    print_numbers("lengths", lengths, 3);
+}
+
+static void survey(size_t log_length, size_t rows_room, size_t chain_room)
+{
+    const uint8_t *heap = image + SHEET;
+    const uint8_t log[16] = {0};
+    uint32_t rows[ROWS] = {7, 7, 7, 7, 7, 7, 7, 7, 7, 7};
+    uint32_t chain[4] = {7, 7, 7, 7};
+
+    print_answer("survey", cg_survey(image, SHEET, heap, HEAP, heap + HEAP, RECORDS, log,
+                                     log_length, rows, rows_room, chain, chain_room));
+    print_numbers("rows", rows, ROWS);
+    print_numbers("chain", chain, 4);
+}
+
+/* Both read the dump, with every refusal, and the survey its chain with every ending. */
+static void read_dump(void)
+{
+    const uint8_t no_record[4] = {0x70, 0xae, 0x32, 0x04};
+    const uint8_t first_met[4] = {0x70, 0xae, 0x32, 0x60};
+
+    area_lengths(SHEET, 3);
+    area_lengths(SHEET, 1);
+    area_lengths(SHEET - 1, 1);
+    survey(16, ROWS, 4);
+    survey(0, ROWS - 2, 4);
+    survey(0, ROWS, 2);
+    survey(15, ROWS - 2, 2);
+
+    memcpy(image + LAST_NEXT, no_record, 4);
+    survey(0, 9, 3);
+    memcpy(image + LAST_NEXT, first_met, 4);
+    survey(0, 9, 3);
+    memset(image + LAST_NEXT, 0, 4);
+
+    image[FLAGS_END] ^= 1;
+    area_lengths(SHEET, 1);
+    survey(15, ROWS, 4);
+    image[0] = 2;
+    survey(15, ROWS, 4);
+    image[0] = 1;
+    image[FLAGS_END] ^= 1;
+}
+
 /* A fresh image of three buffers of 8 bytes. */
 enum { FRESH_HEAP = 72, BASE = 0x1000, STEP = 24 };
 
@@ -88,7 +156,6 @@ static void make_calls(void)
 
 int main(void)
 {
-    static uint8_t image[SHEET + HEAP + RECORDS];
     const uint8_t *heap = image + SHEET;
     const uint8_t *records = heap + HEAP;
     const uint8_t row[16] = {0x70, 0xae, 0x32, 0x00};
@@ -96,11 +163,11 @@ int main(void)
     uint8_t output[OUTPUT] = {0};
     uint32_t at;
 
-    if (fread(image, 1, sizeof image, stdin) != sizeof image)
+    if (fread(image, 1, IMAGE, stdin) != IMAGE)
         return 1;
+    read_dump();
     print_answer("inspect", cg_inspect(image, SHEET, heap, HEAP, records, RECORDS, rows, ROWS));
-    for (at = 0; at < ROWS; at++)
-        printf("row %" PRIu32 "\n", rows[at]);
+    print_numbers("rows", rows, ROWS);
     print_answer("inspect", cg_inspect(image, SHEET, heap, HEAP, records, RECORDS, rows, 8));
     for (at = 0; at < 4; at++)
         print_answer("latest", cg_latest(image, SHEET, heap, HEAP, records, RECORDS, row,

@@ -5,6 +5,27 @@ use std::fs::File;
 use std::path::Path;
 use std::process::Command;
 
+/// The lengths of the dump's areas, 3 x (24 + 16) and 3 x 96, and a number past them
+/// that stays 7; room for one only; a sheet too short. Its survey, with a number past the
+/// rows and one past the chain; room for too few rows, for too little of the chain, and
+/// for either, but first a log of 15 bytes. The chain meets record 2 and then record 0,
+/// whose next word leads to no record, and then back to record 2, which names buffer 0.
+/// Wrong flags, and then a wrong tag as well.
+const DUMP: &str = "\
+area lengths 0 0 0\nlengths 120 288 7
+area lengths 11 0 0\nlengths 7 7 7
+area lengths 1 0 0\nlengths 7 7 7
+survey 0 0 3\nrows 0 0 0 1 2 20 2 0 0 7\nchain 2 0 0 7
+survey 11 0 0\nrows 7 7 7 7 7 7 7 7 7 7\nchain 7 7 7 7
+survey 11 0 0\nrows 7 7 7 7 7 7 7 7 7 7\nchain 7 7 7 7
+survey 3 0 0\nrows 7 7 7 7 7 7 7 7 7 7\nchain 7 7 7 7
+survey 0 0 3\nrows 0 0 0 1 2 20 2 0 0 7\nchain 2 1 0 7
+survey 0 0 3\nrows 0 22 0 1 2 20 2 0 0 7\nchain 2 2 2 7
+area lengths 2 0 0\nlengths 7 7 7
+survey 2 0 0\nrows 7 7 7 7 7 7 7 7 7 7\nchain 7 7 7 7
+survey 1 0 0\nrows 7 7 7 7 7 7 7 7 7 7\nchain 7 7 7 7
+";
+
 /// The dump's findings; room for too few; the latest transactions of its buffers, of
 /// which the log has one row for the record of buffer 1, and of a buffer too many; room
 /// for too little; the report. Then the calls on a fresh image: three refused lay outs
@@ -12,12 +33,8 @@ use std::process::Command;
 /// after a size too large and before one too many; what was stored in the first and
 /// stands in the second; two wrong grants, and the first two given back, the second by
 /// a size that is not read and then again; the second granted anew; the third hurt.
-const EXPECTED: &str = "\
-inspect 0 0 3
-row 0\nrow 0\nrow 0
-row 1\nrow 2\nrow 20
-row 2\nrow 0\nrow 0
-row 0
+const REST: &str = "\
+inspect 0 0 3\nrows 0 0 0 1 2 20 2 0 0 0
 inspect 11 0 0
 latest 0 0 2147483650
 latest 0 0 0
@@ -84,5 +101,8 @@ fn program_in_c() {
         .output()
         .expect("the program starts");
     assert!(output.status.success());
-    assert_eq!(String::from_utf8_lossy(&output.stdout), EXPECTED);
+    assert_eq!(
+        String::from_utf8_lossy(&output.stdout),
+        [DUMP, REST].concat()
+    );
 }

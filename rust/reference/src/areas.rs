@@ -1,34 +1,10 @@
 //! The heap and record areas with their sheet, and which addresses lie in them.
 
 use crate::chunk::Chunk;
+use crate::record::{ADDRESS_AT, MOST_LOG_BYTES, RECORD_SIZE, ROW_SIZE};
+use crate::refusal::Refusal;
 use crate::sheet::Sheet;
-use crate::Refusal;
-
-/// "n records of 96 bytes."
-pub const RECORD_SIZE: usize = 96;
-
-/// Where a record's words stand: "next at 0, buffer address 4, slab 8, cache 12,
-/// timestamp 16 (eight bytes), thread 24".
-pub const NEXT_AT: usize = 0;
-pub const ADDRESS_AT: usize = 4;
-pub const CACHE_AT: usize = 12;
-pub const STAMP_HIGH_AT: usize = 16;
-pub const STAMP_LOW_AT: usize = 20;
-pub const THREAD_AT: usize = 24;
-
-/// "The log is 0 to 1,024 rows of 16 bytes: record address, uptime, thread, kind."
-pub const ROW_SIZE: usize = 16;
-pub const MOST_LOG_BYTES: usize = 16_384;
-
-/// "All numbers are big-endian": the four-byte word at an offset.
-pub fn word(bytes: &[u8], at: usize) -> u32 {
-    u32::from_be_bytes([bytes[at], bytes[at + 1], bytes[at + 2], bytes[at + 3]])
-}
-
-/// Writes a four-byte word at an offset.
-pub fn put_word(bytes: &mut [u8], at: usize, word: u32) {
-    bytes[at..at + 4].copy_from_slice(&word.to_be_bytes());
-}
+use crate::words::word;
 
 /// A lawful sheet with a heap area and a record area of the right lengths.
 pub struct Areas<'a> {

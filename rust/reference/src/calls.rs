@@ -1,12 +1,14 @@
 //! The calls: lay out, allocate, free, store and show.
 
-use crate::areas::{
-    put_word, Areas, ADDRESS_AT, CACHE_AT, NEXT_AT, RECORD_SIZE, STAMP_HIGH_AT, STAMP_LOW_AT,
-    THREAD_AT,
+use crate::areas::Areas;
+use crate::chunk::{write_free, write_granted, Grant, Pattern};
+use crate::record::{
+    ADDRESS_AT, CACHE_AT, NEXT_AT, RECORD_SIZE, STAMP_HIGH_AT, STAMP_LOW_AT, THREAD_AT,
 };
-use crate::chunk::{write_free, write_granted, Pattern};
+use crate::refusal::Refusal;
 use crate::sheet::{Sheet, FLAGS, HEAD_AT, SHEET_LENGTH};
-use crate::{Grant, Refusal, Verdict};
+use crate::verdict::Verdict;
+use crate::words::put_word;
 
 /// "Lay out writes all three areas; all buffers free; buffer i paired with record i;
 /// chain 0 to n-1 in order."

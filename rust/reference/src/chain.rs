@@ -1,7 +1,8 @@
 //! The chain of free records.
 
-use crate::areas::{Areas, NEXT_AT};
-use crate::Refusal;
+use crate::areas::Areas;
+use crate::record::NEXT_AT;
+use crate::refusal::Refusal;
 
 /// How a chain stops.
 #[derive(Clone, Copy, PartialEq, Eq, Debug)]

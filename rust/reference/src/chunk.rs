@@ -1,8 +1,8 @@
 //! One chunk: "buffer bytes; then redzone words R0 and R1; then T0, the record's
 //! address, and T1". How it is written and how it is judged by itself.
 
-use crate::areas::{put_word, word};
-use crate::Verdict;
+use crate::verdict::Verdict;
+use crate::words::{put_word, word};
 
 /// "The tag word T0 xor T1 has two named patterns."
 #[derive(Clone, Copy, PartialEq, Eq, Debug)]

@@ -1,7 +1,9 @@
 //! The latest transaction of a buffer.
 
-use crate::areas::{word, Areas, ROW_SIZE, STAMP_HIGH_AT, STAMP_LOW_AT};
-use crate::Refusal;
+use crate::areas::Areas;
+use crate::record::{ROW_SIZE, STAMP_HIGH_AT, STAMP_LOW_AT};
+use crate::refusal::Refusal;
+use crate::words::word;
 
 /// "Either the log row or the record": a row's number or a record's index.
 #[derive(Clone, Copy, PartialEq, Eq, Debug)]

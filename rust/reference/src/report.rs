@@ -2,8 +2,9 @@
 
 use crate::areas::Areas;
 use crate::chain::{walk, Chain, Ending};
-use crate::verdict::judge;
-use crate::{Refusal, Verdict};
+use crate::inspect::judge;
+use crate::refusal::Refusal;
+use crate::verdict::Verdict;
 
 /// "The call answers the length filled; output past it stays."
 /// Refusals 1, 2, 3, then 11, "output shorter than the exact need".

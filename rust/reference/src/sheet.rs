@@ -1,7 +1,7 @@
 //! The sheet: 48 bytes of tagged fields, and the limits on their numbers.
 
-use crate::areas::RECORD_SIZE;
-use crate::Refusal;
+use crate::record::RECORD_SIZE;
+use crate::refusal::Refusal;
 
 /// "The sheet is exactly 48 bytes."
 pub const SHEET_LENGTH: usize = 48;

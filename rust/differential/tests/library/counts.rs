@@ -23,7 +23,7 @@ pub enum Met {
     Accepted(&'static str),
     /// A call that was refused, with the refusal's number and detail.
     Refused(&'static str, u8, u8),
-    /// What a list of calls came to, or how arguments were drawn.
+    /// What a list of calls came to, or how arguments and rooms were drawn.
     Drawn(&'static str),
 }
 
@@ -55,7 +55,7 @@ pub const EXTREMES: [Met; 5] = [
 /// Every way a chain stops.
 pub const ENDINGS: [Met; 3] = [Met::Chain("end"), Met::Chain("broken"), Met::Chain("again")];
 
-/// The refusals that inspect and report can give, by the rules.
+/// The refusals that inspect, survey and report can give, by the rules.
 pub const READ_REFUSALS: [Met; 4] = [
     Met::Refusal(1, 0),
     Met::Refusal(2, 0),

@@ -9,7 +9,8 @@ use differential::{put_word, sound_image, Case, Image, Sequence};
 use reference::{chain, Finding, Refusal};
 
 use crate::counts::{Counts, Met, ENDINGS, EXTREMES, READ_REFUSALS, VERDICTS};
-use crate::lent::{expected_answer, expected_refusal, Guarded, Lent};
+use crate::expected::{expected_answer, expected_finding, expected_refusal, put_rows};
+use crate::lent::{numbered, some_room, Guarded, Lent};
 
 const CASES: u64 = 60_000;
 const SEED: u64 = 0x1d5b_ec71;
@@ -26,12 +27,9 @@ fn compare(
     let mut findings = vec![Finding::default(); room / 3];
     let expected = reference::inspect(sheet, heap, records, &mut findings);
     findings.truncate(expected.unwrap_or(0));
-    let pattern: Vec<u32> = (0..room as u32).map(|at| 0xa5a5_0000 + at).collect();
+    let pattern = numbered(0xa5a5_0000, room);
     let mut expected_rows = pattern.clone();
-    for (row, finding) in expected_rows.chunks_exact_mut(3).zip(&findings) {
-        let Finding { index, verdict } = *finding;
-        row.copy_from_slice(&[index, verdict.number(), verdict.value()]);
-    }
+    put_rows(&mut expected_rows, &findings);
 
     let lent = Lent::new(image, sequence);
     let (sheet, heap, records) = (lent.sheet.part(), lent.heap.part(), lent.records.part());
@@ -43,22 +41,14 @@ fn compare(
     lent.assert_holds(image, story);
 
     let mut rows = Guarded::new(&pattern, sequence);
-    let answer = inspect(sheet, heap, records, rows.part_mut());
-    assert_eq!(answer, expected.map_err(expected_refusal), "{story}");
+    let found = inspect(sheet, heap, records, rows.part_mut());
+    let found = found.map(|found| found.collect());
+    let expected_found = expected.map(|_| findings.iter().map(expected_finding).collect());
+    let expected_found: Result<Vec<_>, _> = expected_found.map_err(expected_refusal);
+    assert_eq!(found, expected_found, "{story}");
     assert!(rows.holds(&expected_rows), "rows, room {room}, {story}");
     lent.assert_holds(image, story);
     expected.map(|_| findings)
-}
-
-/// Mostly the exact room or more, now and then less.
-fn some_room(image: &Image, sequence: &mut Sequence) -> usize {
-    let exact = 3 * image.shape.count;
-    match sequence.below(12) {
-        0 => sequence.below(exact),
-        1 => exact - 1,
-        2..=5 => exact,
-        _ => exact + sequence.between(1, 40),
-    }
 }
 
 fn note(counts: &mut Counts, image: &Image, found: Result<Vec<Finding>, Refusal>) {
@@ -80,7 +70,7 @@ fn hurt_images() {
     let mut counts = Counts::default();
     for number in 0..CASES {
         let (case, mut sequence) = Case::new(SEED, number);
-        let room = some_room(&case.image, &mut sequence);
+        let room = some_room(3 * case.image.shape.count, &mut sequence);
         let found = compare(&case.image, room, &mut sequence, &case);
         note(&mut counts, &case.image, found);
         for name in case.hurts {

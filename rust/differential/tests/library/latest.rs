@@ -8,7 +8,8 @@ use differential::{put_word, word, Case, Image, Sequence};
 use reference::{Latest, Refusal};
 
 use crate::counts::{Counts, Met};
-use crate::lent::{expected_answer, expected_refusal, Lent};
+use crate::expected::{expected_answer, expected_refusal};
+use crate::lent::Lent;
 
 const CASES: u64 = 60_000;
 const SEED: u64 = 0x7a3e_55c9;

@@ -3,7 +3,6 @@
 use std::fmt::Display;
 use std::hint::black_box;
 
-use combgallop::{Answer, Refusal};
 use differential::{Image, Sequence};
 
 const GUARD: u8 = 0xc3;
@@ -50,6 +49,21 @@ impl<T: Copy + PartialEq + From<u8>> Guarded<T> {
     }
 }
 
+/// Mostly the exact room or more, now and then less.
+pub fn some_room(exact: usize, sequence: &mut Sequence) -> usize {
+    match sequence.below(12) {
+        0 => sequence.below(exact),
+        1 => exact - 1,
+        2..=5 => exact,
+        _ => exact + sequence.between(1, 40),
+    }
+}
+
+/// What stands in lent numbers before a call: each is one more than the one before it.
+pub fn numbered(first: u32, length: usize) -> Vec<u32> {
+    (first..).take(length).collect()
+}
+
 /// The areas and the log of an image, as a call is lent them.
 pub struct Lent {
     pub sheet: Guarded<u8>,
@@ -82,21 +96,5 @@ impl Lent {
         let records_agree = self.records.holds(&image.records);
         assert!(records_agree, "records differ: {story}");
         assert!(self.log.holds(&image.log), "log differs: {story}");
-    }
-}
-
-/// The answer that the library must give where the reference gives this.
-pub fn expected_answer(value: Result<u32, reference::Refusal>) -> Answer {
-    Answer(match value {
-        Ok(value) => u64::from(value) << 32,
-        Err(refusal) => u64::from(refusal.number) | u64::from(refusal.detail) << 8,
-    })
-}
-
-/// The reference's refusal, as the library's type has it.
-pub fn expected_refusal(refusal: reference::Refusal) -> Refusal {
-    Refusal {
-        number: refusal.number,
-        detail: refusal.detail,
     }
 }

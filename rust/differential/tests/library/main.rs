@@ -1,9 +1,13 @@
 //! The verified library and the reference answer alike, and leave every lent byte
 //! alike.
 
+mod area_lengths;
 mod calls;
 mod counts;
+mod expected;
 mod inspect;
 mod latest;
 mod lent;
+mod long;
 mod report;
+mod survey;

@@ -8,7 +8,8 @@ use differential::{Case, Image, Sequence};
 use reference::{chain, Refusal};
 
 use crate::counts::{Counts, Met, ENDINGS, READ_REFUSALS, VERDICTS};
-use crate::lent::{expected_answer, expected_refusal, Guarded, Lent};
+use crate::expected::{expected_answer, expected_refusal};
+use crate::lent::{Guarded, Lent};
 
 const CASES: u64 = 60_000;
 const SEED: u64 = 0x3c84_a90d;

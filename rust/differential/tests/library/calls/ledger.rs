@@ -4,7 +4,7 @@
 use std::collections::BTreeMap;
 use std::fmt::Display;
 
-use combgallop::{Grant, Refusal};
+use combgallop::{Finding, Grant, Refusal, Verdict};
 use reference::Ending;
 
 use super::call::{Call, Numbers};
@@ -69,37 +69,37 @@ impl Ledger {
         }
     }
 
-    /// The number of the refusal that a call has to get, none where it has to be
-    /// accepted. Lay out has its own test.
-    fn refusal(&self, call: &Call) -> Option<u8> {
+    /// The refusal that a call has to get, none where it has to be accepted. Lay out has
+    /// its own test.
+    fn refusal(&self, call: &Call) -> Option<Refusal> {
         match call {
             Call::LayOut(_) => None,
-            Call::Allocate { grant, .. } if !self.is_lawful(*grant) => Some(6),
-            Call::Allocate { .. } => self.is_full().then_some(5),
+            Call::Allocate { grant, .. } if !self.is_lawful(*grant) => Some(Refusal::BadSize),
+            Call::Allocate { .. } => self.is_full().then_some(Refusal::NoRoom),
             Call::Free { address, .. }
             | Call::Store { address, .. }
             | Call::Show { address, .. }
                 if !self.is_buffer(*address) =>
             {
-                Some(4)
+                Some(Refusal::NoSuchBuffer)
             }
             Call::Free { address, grant, .. } => match self.out.get(address) {
-                None => Some(8),
-                Some(out) => (out.grant != *grant).then_some(9),
+                None => Some(Refusal::NotAllocated),
+                Some(out) => (out.grant != *grant).then_some(Refusal::OtherGrant),
             },
             Call::Store {
                 address,
                 offset,
                 bytes,
             } => match self.out.get(address) {
-                None => Some(8),
+                None => Some(Refusal::NotAllocated),
                 Some(out) => {
                     let end = *offset as usize + bytes.len();
-                    (end > out.bytes.len()).then_some(10)
+                    (end > out.bytes.len()).then_some(Refusal::PastClient)
                 }
             },
             Call::Show { address } => match self.out.get(address) {
-                None => Some(8),
+                None => Some(Refusal::NotAllocated),
                 Some(_) => None,
             },
         }
@@ -113,9 +113,7 @@ impl Ledger {
             }
             return;
         }
-        let expected = self
-            .refusal(call)
-            .map(|number| Refusal { number, detail: 0 });
+        let expected = self.refusal(call);
         assert_eq!(answer.err(), expected, "refusal by the ledger: {story}");
         if let Ok(value) = answer {
             self.enter_accepted(call, value, story);
@@ -182,22 +180,24 @@ impl Ledger {
     fn check_findings(&self, twin: &Twin) {
         let lent = &twin.lent;
         let (sheet, heap, records) = (lent.sheet.part(), lent.heap.part(), lent.records.part());
-        let expected: Vec<[u32; 3]> = (0..)
+        let expected: Vec<Finding> = (0..)
             .zip(self.addresses())
             .map(|(index, address)| {
-                let found = match self.out.get(&address).map(|out| out.grant) {
-                    None => [0, 0],
-                    Some(Grant::Whole) => [1, 0],
-                    Some(Grant::Sized(size)) => [2, size],
+                let verdict = match self.out.get(&address).map(|out| out.grant) {
+                    None => Verdict::Free,
+                    Some(Grant::Whole) => Verdict::Whole,
+                    Some(Grant::Sized(size)) => Verdict::Allocated(size),
                 };
-                [index, found[0], found[1]]
+                Finding { index, verdict }
             })
             .collect();
-        let mut rows = vec![[0; 3]; expected.len()];
-        let answer = combgallop::inspect(sheet, heap, records, rows.as_flattened_mut());
-        assert_eq!(answer, Ok(expected.len()), "inspect: {}", twin.story);
-        assert_eq!(rows, expected, "findings: {}", twin.story);
-        let found_out = rows.iter().filter(|row| row[1] != 0).count();
+        let mut rows = vec![0; 3 * expected.len()];
+        let found = combgallop::inspect(sheet, heap, records, &mut rows);
+        let found = found.unwrap_or_else(|refusal| panic!("{refusal}: {}", twin.story));
+        let found: Vec<Finding> = found.collect();
+        assert_eq!(found, expected, "findings: {}", twin.story);
+        let found_out = found.iter().filter(|row| row.verdict != Verdict::Free);
+        let found_out = found_out.count();
         assert_eq!(found_out, self.allocates - self.frees, "{}", twin.story);
     }
 
@@ -245,10 +245,7 @@ impl Ledger {
             let shown = combgallop::show(sheet, heap, records, address);
             let expected = match self.out.get(&address) {
                 Some(out) => Ok(&out.bytes[..]),
-                None => Err(Refusal {
-                    number: 8,
-                    detail: 0,
-                }),
+                None => Err(Refusal::NotAllocated),
             };
             assert_eq!(shown, expected, "shown at {address:x}: {}", twin.story);
         }

@@ -8,7 +8,6 @@ mod hurt;
 mod lay_out;
 mod ledger;
 mod lists;
-mod long;
 mod twin;
 
 use crate::counts::Met;

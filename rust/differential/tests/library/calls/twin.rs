@@ -8,7 +8,8 @@ use differential::{Image, Sequence};
 
 use super::call::Call;
 use crate::counts::{Counts, Met};
-use crate::lent::{expected_answer, expected_refusal, Guarded, Lent};
+use crate::expected::{expected_answer, expected_refusal};
+use crate::lent::{Guarded, Lent};
 
 enum Step {
     Call(Call),
@@ -91,7 +92,7 @@ impl<'a> Twin<'a> {
         }
         counts.note(match outcome {
             Ok(_) => Met::Accepted(call.name()),
-            Err(refusal) => Met::Refused(call.name(), refusal.number, refusal.detail),
+            Err(refusal) => Met::Refused(call.name(), refusal.number(), refusal.detail()),
         });
         outcome
     }

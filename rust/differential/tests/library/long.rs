@@ -56,7 +56,7 @@ fn areas_longer_by_2_to_the_32() {
             1 => every_answer(&mut sheet, longer, &mut records),
             _ => every_answer(&mut sheet, &mut heap, longer),
         };
-        assert_eq!(answers, [refusal; 5], "area {area}");
+        assert_eq!(answers, [refusal; 9], "area {area}");
         let before = [image.sheet, image.heap, image.records];
         assert_eq!([sheet, heap, records], before, "area {area}");
         assert!(long.starts_with(&lengthened), "area {area}");
@@ -64,8 +64,8 @@ fn areas_longer_by_2_to_the_32() {
     }
 }
 
-/// Lay out, allocate, free, store and show, each of which the dump would accept.
-fn every_answer(sheet: &mut [u8], heap: &mut [u8], records: &mut [u8]) -> [Answer; 5] {
+/// Each call and each reader, all of which the dump would accept.
+fn every_answer(sheet: &mut [u8], heap: &mut [u8], records: &mut [u8]) -> [Answer; 9] {
     let (whole, grant) = (Grant::Whole, Grant::Sized(20));
     let shape = dump().shape;
     let (heap_base, record_base) = (shape.heap_base, shape.record_base);
@@ -75,5 +75,49 @@ fn every_answer(sheet: &mut [u8], heap: &mut [u8], records: &mut [u8]) -> [Answe
         combgallop::free_answer(sheet, heap, records, BUFFER, grant, 1, 2),
         combgallop::store_answer(sheet, heap, records, BUFFER, 0, &[1]),
         combgallop::show_answer(sheet, heap, records, BUFFER),
+        combgallop::inspect_answer(sheet, heap, records, &mut [0; 9]),
+        combgallop::survey_answer(sheet, heap, records, &[], &mut [0; 9], &mut [0; 3]),
+        combgallop::latest_answer(sheet, heap, records, &[], 1, 2),
+        combgallop::report_answer(sheet, heap, records, &[], &mut [0; 64]),
     ]
+}
+
+#[test]
+fn sheet_longer_by_2_to_the_32() {
+    let mut long = vec![0; TWO_TO_THE_32 + 48];
+    long[..48].copy_from_slice(&dump().sheet);
+    let answer = combgallop::area_lengths_answer(&long, &mut [0; 2]);
+    assert_eq!(answer, Answer(1));
+}
+
+/// The log is 2^32 bytes longer than an empty one.
+#[test]
+fn logs_of_2_to_the_32_bytes() {
+    let log = vec![0; TWO_TO_THE_32];
+    let Image {
+        sheet,
+        heap,
+        records,
+        ..
+    } = dump();
+    let answers = [
+        combgallop::survey_answer(&sheet, &heap, &records, &log, &mut [0; 9], &mut [0; 3]),
+        combgallop::latest_answer(&sheet, &heap, &records, &log, 1, 2),
+        combgallop::report_answer(&sheet, &heap, &records, &log, &mut [0; 64]),
+    ];
+    assert_eq!(answers, [Answer(3); 3]);
+}
+
+/// Room for 2^32 bytes is enough.
+#[test]
+fn output_of_2_to_the_32_bytes() {
+    let Image {
+        sheet,
+        heap,
+        records,
+        ..
+    } = dump();
+    let mut output = vec![0; TWO_TO_THE_32];
+    let answer = combgallop::report_answer(&sheet, &heap, &records, &[], &mut output);
+    assert_eq!(answer, Answer(64 << 32));
 }

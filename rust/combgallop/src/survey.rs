@@ -1,0 +1,59 @@
+//! The findings of an image, and its chain.
+
+use crate::{ffi, Answer, Chain, Findings, Refusal};
+
+/// What is found of every buffer, and of the chain.
+#[derive(Clone, Debug)]
+pub struct Survey<'a> {
+    pub findings: Findings<'a>,
+    pub chain: Chain,
+}
+
+/// Judges every buffer and walks the chain. Fills three of the numbers lent for each
+/// buffer, as `inspect` does, and hands back what they say. A refusal changes nothing.
+pub fn survey<'a>(
+    sheet: &[u8],
+    heap: &[u8],
+    records: &[u8],
+    log: &[u8],
+    rows: &'a mut [u32],
+) -> Result<Survey<'a>, Refusal> {
+    let mut chain = [0; 3];
+    let count = survey_answer(sheet, heap, records, log, rows, &mut chain).value()?;
+    Ok(Survey {
+        findings: Findings::new(rows, count),
+        chain: Chain::new(chain),
+    })
+}
+
+/// As `survey`, with the answer as the library gives it: the count of buffers. Fills
+/// three numbers for the chain: records met; 0 for its end, 1 where it is broken, 2
+/// where it comes back to a record; that record's index, else 0. Numbers past those stay.
+pub fn survey_answer(
+    sheet: &[u8],
+    heap: &[u8],
+    records: &[u8],
+    log: &[u8],
+    rows: &mut [u32],
+    chain: &mut [u32],
+) -> Answer {
+    // SAFETY: each pointer comes with the length of its own slice, and nothing else
+    // can reach `rows` and `chain` before the call returns.
+    let answer = unsafe {
+        ffi::cg_survey(
+            sheet.as_ptr(),
+            sheet.len(),
+            heap.as_ptr(),
+            heap.len(),
+            records.as_ptr(),
+            records.len(),
+            log.as_ptr(),
+            log.len(),
+            rows.as_mut_ptr(),
+            rows.len(),
+            chain.as_mut_ptr(),
+            chain.len(),
+        )
+    };
+    Answer(answer)
+}

@@ -1,0 +1,177 @@
+//! What is found of a buffer.
+
+use std::fmt::{Display, Formatter, Result as Written};
+
+use crate::Fault;
+
+/// The verdicts in the order of their numbers. A size is that of the grant; an offset
+/// is that of the first byte that differs, from the buffer's start.
+#[derive(Clone, Copy, PartialEq, Eq, Debug)]
+pub enum Verdict {
+    Free,
+    Whole,
+    Allocated(u32),
+    NotOneRecord,
+    BadTag,
+    FreedTwice,
+    OffChain,
+    OnChain,
+    BadFill(u32),
+    BadRedzone(u32),
+    BadSizeCode,
+    Overrun(u32),
+}
+
+impl Verdict {
+    /// The verdict with a number and with the size or offset that goes with it, which
+    /// is 0 where none does. None where there is no such verdict.
+    pub fn from_numbers(number: u32, value: u32) -> Option<Verdict> {
+        Some(match (number, value) {
+            (0, 0) => Verdict::Free,
+            (1, 0) => Verdict::Whole,
+            (2, size) => Verdict::Allocated(size),
+            (20, 0) => Verdict::NotOneRecord,
+            (21, 0) => Verdict::BadTag,
+            (22, 0) => Verdict::FreedTwice,
+            (23, 0) => Verdict::OffChain,
+            (24, 0) => Verdict::OnChain,
+            (25, offset) => Verdict::BadFill(offset),
+            (26, offset) => Verdict::BadRedzone(offset),
+            (27, 0) => Verdict::BadSizeCode,
+            (28, offset) => Verdict::Overrun(offset),
+            _ => return None,
+        })
+    }
+
+    pub fn number(self) -> u8 {
+        match self {
+            Verdict::Free => 0,
+            Verdict::Whole => 1,
+            Verdict::Allocated(_) => 2,
+            Verdict::NotOneRecord => 20,
+            Verdict::BadTag => 21,
+            Verdict::FreedTwice => 22,
+            Verdict::OffChain => 23,
+            Verdict::OnChain => 24,
+            Verdict::BadFill(_) => 25,
+            Verdict::BadRedzone(_) => 26,
+            Verdict::BadSizeCode => 27,
+            Verdict::Overrun(_) => 28,
+        }
+    }
+
+    /// Whether the buffer is damaged.
+    pub fn is_fault(self) -> bool {
+        self.fault().is_some()
+    }
+
+    /// What is damaged, if anything is.
+    pub fn fault(self) -> Option<Fault> {
+        Fault::from_number(self.number())
+    }
+}
+
+impl Display for Verdict {
+    fn fmt(&self, out: &mut Formatter) -> Written {
+        if let Some(fault) = self.fault() {
+            write!(out, "fault {}: {fault}", fault.number())?;
+        }
+        match *self {
+            Verdict::Free => write!(out, "free"),
+            Verdict::Whole => write!(out, "allocated whole"),
+            Verdict::Allocated(size) => write!(out, "allocated, size {size}"),
+            Verdict::BadFill(offset) | Verdict::BadRedzone(offset) | Verdict::Overrun(offset) => {
+                write!(out, ", first at offset {offset}")
+            }
+            _ => Ok(()),
+        }
+    }
+}
+
+#[cfg(test)]
+mod tests {
+    use std::collections::BTreeSet;
+
+    use super::Verdict;
+    use crate::Fault;
+
+    /// The document's verdicts: number, size or offset, and whether it is a fault,
+    /// which is "a verdict of 20 or more".
+    const TABLE: [(u32, u32, Verdict, bool); 12] = [
+        (0, 0, Verdict::Free, false),
+        (1, 0, Verdict::Whole, false),
+        (2, 20, Verdict::Allocated(20), false),
+        (20, 0, Verdict::NotOneRecord, true),
+        (21, 0, Verdict::BadTag, true),
+        (22, 0, Verdict::FreedTwice, true),
+        (23, 0, Verdict::OffChain, true),
+        (24, 0, Verdict::OnChain, true),
+        (25, 9, Verdict::BadFill(9), true),
+        (26, 24, Verdict::BadRedzone(24), true),
+        (27, 0, Verdict::BadSizeCode, true),
+        (28, 20, Verdict::Overrun(20), true),
+    ];
+
+    #[test]
+    fn every_verdict_has_its_number() {
+        for (number, value, verdict, is_fault) in TABLE {
+            assert_eq!(Verdict::from_numbers(number, value), Some(verdict));
+            assert_eq!(u32::from(verdict.number()), number);
+            assert_eq!(verdict.is_fault(), is_fault, "{verdict:?}");
+        }
+    }
+
+    #[test]
+    fn no_other_number_is_a_verdict() {
+        let named = TABLE.map(|(number, ..)| number);
+        for number in (0..=0xffff).chain([0x1_0014, 0x100_0014, u32::MAX]) {
+            let found = Verdict::from_numbers(number, 0);
+            assert_eq!(found.is_some(), named.contains(&number), "{number}");
+        }
+    }
+
+    /// A size or offset goes with 2, 25, 26 and 28 alone.
+    #[test]
+    fn no_other_verdict_has_a_value() {
+        for (number, ..) in TABLE {
+            let found = Verdict::from_numbers(number, 1);
+            let has_value = [2, 25, 26, 28].contains(&number);
+            assert_eq!(found.is_some(), has_value, "{number}");
+        }
+    }
+
+    #[test]
+    fn every_fault_is_that_of_its_verdict() {
+        let faults: Vec<Fault> = TABLE.iter().filter_map(|row| row.2.fault()).collect();
+        assert_eq!(faults, Fault::ALL);
+    }
+
+    #[test]
+    fn words_of_a_verdict() {
+        assert_eq!(Verdict::Free.to_string(), "free");
+        assert_eq!(Verdict::Whole.to_string(), "allocated whole");
+        assert_eq!(Verdict::Allocated(20).to_string(), "allocated, size 20");
+        assert_eq!(
+            Verdict::BadFill(9).to_string(),
+            "fault 25: the buffer was written to after it was freed, first at offset 9"
+        );
+        assert_eq!(
+            Verdict::OnChain.to_string(),
+            "fault 24: the buffer is tagged allocated but on the chain of free buffers"
+        );
+    }
+
+    /// A fault's words start with its number, and no two faults mean the same.
+    #[test]
+    fn words_of_every_fault() {
+        let faults = TABLE.into_iter().filter(|row| row.3);
+        let meanings: BTreeSet<String> = faults
+            .map(|(number, _, verdict, _)| {
+                let text = verdict.to_string();
+                let meaning = text.strip_prefix(&format!("fault {number}: "));
+                meaning.expect("its number first").to_string()
+            })
+            .collect();
+        assert_eq!(meanings.len(), 9);
+    }
+}

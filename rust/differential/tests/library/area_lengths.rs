@@ -1,0 +1,100 @@
+//! The lengths of a sheet's areas, on hurt images and on every neighbour of the dump's
+//! sheet.
+
+use std::fmt::Display;
+
+use combgallop::{area_lengths, area_lengths_answer, AreaLengths};
+use differential::samples::dump;
+use differential::{Case, Image, Sequence};
+use reference::Refusal;
+
+use crate::counts::{Counts, Met, EXTREMES};
+use crate::expected::{expected_answer, expected_refusal, SHORT_OUTPUT};
+use crate::lent::{numbered, Guarded};
+
+const CASES: u64 = 60_000;
+const SEED: u64 = 0x61d9_0b3f;
+
+const ACCEPTED: Met = Met::Accepted("area lengths");
+
+/// The refusals that it can give.
+const REFUSALS: [Met; 3] = [Met::Refusal(1, 0), Met::Refusal(2, 0), Met::Refusal(11, 0)];
+
+/// Asks for the lengths with room for so many numbers, by the library in both forms,
+/// and answers whether it was to be refused.
+fn compare(
+    sheet: &[u8],
+    room: usize,
+    sequence: &mut Sequence,
+    story: &dyn Display,
+) -> Result<(), Refusal> {
+    let expected = reference::area_lengths(sheet);
+    let lent = Guarded::new(sheet, sequence);
+    let found = area_lengths(lent.part());
+    let expected_found = expected.map(|(heap, records)| AreaLengths { heap, records });
+    let expected_found = expected_found.map_err(expected_refusal);
+    assert_eq!(found, expected_found, "{story}");
+    assert!(lent.holds(sheet), "sheet differs: {story}");
+
+    let pattern = numbered(0xa5a5_0000, room);
+    let mut expected_lengths = pattern.clone();
+    let expected = expected.and_then(|(heap, records)| match &mut expected_lengths[..] {
+        [first, second, ..] => {
+            (*first, *second) = (heap as u32, records as u32);
+            Ok(())
+        }
+        _ => Err(SHORT_OUTPUT),
+    });
+    let mut lengths = Guarded::new(&pattern, sequence);
+    let answer = area_lengths_answer(lent.part(), lengths.part_mut());
+    let expected_answer = expected_answer(expected.map(|()| 0));
+    assert_eq!(answer, expected_answer, "room {room}, {story}");
+    let lengths_agree = lengths.holds(&expected_lengths);
+    assert!(lengths_agree, "lengths, room {room}, {story}");
+    assert!(lent.holds(sheet), "sheet differs: {story}");
+    expected
+}
+
+fn note(counts: &mut Counts, image: &Image, found: Result<(), Refusal>) {
+    match found {
+        Ok(()) => {
+            counts.note(ACCEPTED);
+            counts.note_extremes(image);
+        }
+        Err(refusal) => counts.note_refusal(refusal),
+    }
+}
+
+#[test]
+fn hurt_images() {
+    let mut counts = Counts::default();
+    for number in 0..CASES {
+        let (case, mut sequence) = Case::new(SEED, number);
+        let room = sequence.pick(&[0, 1, 2, 2, 2, 3, 40]);
+        let found = compare(&case.image.sheet, room, &mut sequence, &case);
+        note(&mut counts, &case.image, found);
+    }
+    let wanted = [&[ACCEPTED], &REFUSALS[..], &EXTREMES].concat();
+    counts.finish("area lengths, hurt images", SEED, &wanted);
+}
+
+/// Each byte of the dump's sheet changed to each other value, with every room.
+#[test]
+fn neighbours_of_the_dump() {
+    let mut sequence = Sequence::new(SEED);
+    let mut counts = Counts::default();
+    let mut image = dump();
+    for at in 0..image.sheet.len() {
+        let stood = image.sheet[at];
+        for value in 0..=255 {
+            image.sheet[at] = value;
+            for room in 0..4 {
+                let found = compare(&image.sheet, room, &mut sequence, &image);
+                note(&mut counts, &image, found);
+            }
+        }
+        image.sheet[at] = stood;
+    }
+    let wanted = [&[ACCEPTED], &REFUSALS[..]].concat();
+    counts.finish("area lengths, neighbours of the dump", SEED, &wanted);
+}

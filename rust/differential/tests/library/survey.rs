@@ -1,0 +1,235 @@
+//! The survey, on hurt images, with every room for it and on every chain of three
+//! records.
+
+use std::fmt::Display;
+
+use combgallop::{survey, survey_answer};
+use differential::samples::dump;
+use differential::{put_word, Case, Image, Sequence};
+use reference::{Chain, Ending, Finding, Refusal};
+
+use crate::counts::{Counts, Met, ENDINGS, EXTREMES, READ_REFUSALS, VERDICTS};
+use crate::expected::{
+    expected_answer, expected_finding, expected_refusal, put_rows, SHORT_OUTPUT,
+};
+use crate::lent::{numbered, some_room, Guarded, Lent};
+
+const CASES: u64 = 60_000;
+const SEED: u64 = 0x4be2_7716;
+
+/// Causes of the refusals 11 and 3.
+const ROWS_SHORT: Met = Met::Drawn("room for the rows alone too short");
+const CHAIN_SHORT: Met = Met::Drawn("room for the chain alone too short");
+const LOG_WRONG: Met = Met::Drawn("length of the log alone wrong");
+
+/// Where the chain's words stand: in the sheet, and in each record.
+const HEAD_BODY: usize = 39;
+const RECORD_SIZE: usize = 96;
+
+/// How many numbers are lent for the rows and for the chain.
+#[derive(Clone, Copy, Debug)]
+struct Room {
+    rows: usize,
+    chain: usize,
+}
+
+/// What has to be found of an image.
+struct Found {
+    findings: Vec<Finding>,
+    chain: Chain,
+}
+
+/// Refusals 1, 2 and 3 as the report gives them, which tests the log as well; then 11 by
+/// the rows, as inspect gives it, or by the chain.
+fn expected_survey(image: &Image, room: Room) -> Result<Found, Refusal> {
+    let (sheet, heap, records) = (&image.sheet, &image.heap, &image.records);
+    reference::report_text(sheet, heap, records, &image.log)?;
+    let mut findings = vec![Finding::default(); room.rows / 3];
+    let count = reference::inspect(sheet, heap, records, &mut findings)?;
+    findings.truncate(count);
+    if room.chain < 3 {
+        return Err(SHORT_OUTPUT);
+    }
+    let chain = reference::chain(sheet, heap, records)?;
+    Ok(Found { findings, chain })
+}
+
+/// The three numbers of a chain: records met; 0 for its end, 1 where it is broken, 2
+/// where it is again at a record; that record's index, else 0.
+fn chain_numbers(chain: &Chain) -> [u32; 3] {
+    let (ending, record) = match chain.ending {
+        Ending::End => (0, 0),
+        Ending::Broken => (1, 0),
+        Ending::Again(record) => (2, record),
+    };
+    [chain.met.len() as u32, ending, record as u32]
+}
+
+fn expected_chain(chain: &Chain) -> combgallop::Chain {
+    combgallop::Chain {
+        met: chain.met.len(),
+        ending: match chain.ending {
+            Ending::End => combgallop::Ending::End,
+            Ending::Broken => combgallop::Ending::Broken,
+            Ending::Again(record) => combgallop::Ending::Again(record),
+        },
+    }
+}
+
+/// Surveys an image with so much room, by the library in both forms, and answers what
+/// has to be found.
+fn compare(
+    image: &Image,
+    room: Room,
+    sequence: &mut Sequence,
+    story: &dyn Display,
+) -> Result<Found, Refusal> {
+    let lent = Lent::new(image, sequence);
+    let rows = numbered(0xa5a5_0000, room.rows);
+    compare_survey(image, &lent, &rows, sequence, story);
+    compare_answer(image, &lent, &rows, room, sequence, story)
+}
+
+/// The form that hands back findings and chain, which has its own room for the chain.
+fn compare_survey(
+    image: &Image,
+    lent: &Lent,
+    pattern: &[u32],
+    sequence: &mut Sequence,
+    story: &dyn Display,
+) {
+    let room = Room {
+        rows: pattern.len(),
+        chain: 3,
+    };
+    let mut expected_rows = pattern.to_vec();
+    let expected = expected_survey(image, room).map(|found| {
+        put_rows(&mut expected_rows, &found.findings);
+        let findings: Vec<_> = found.findings.iter().map(expected_finding).collect();
+        (findings, expected_chain(&found.chain))
+    });
+    let (sheet, heap, records) = (lent.sheet.part(), lent.heap.part(), lent.records.part());
+    let mut rows = Guarded::new(pattern, sequence);
+    let found = survey(sheet, heap, records, lent.log.part(), rows.part_mut());
+    let found = found.map(|found| (found.findings.collect(), found.chain));
+    let expected = expected.map_err(expected_refusal);
+    assert_eq!(found, expected, "{room:?}, {story}");
+    assert!(rows.holds(&expected_rows), "rows, {room:?}, {story}");
+    lent.assert_holds(image, story);
+}
+
+/// The form that fills numbers for the chain too.
+fn compare_answer(
+    image: &Image,
+    lent: &Lent,
+    pattern: &[u32],
+    room: Room,
+    sequence: &mut Sequence,
+    story: &dyn Display,
+) -> Result<Found, Refusal> {
+    let chain_pattern = numbered(0x5a5a_0000, room.chain);
+    let (mut expected_rows, mut expected_chain) = (pattern.to_vec(), chain_pattern.clone());
+    let expected = expected_survey(image, room);
+    if let Ok(found) = &expected {
+        put_rows(&mut expected_rows, &found.findings);
+        expected_chain[..3].copy_from_slice(&chain_numbers(&found.chain));
+    }
+    let value = match &expected {
+        Ok(found) => Ok(found.findings.len() as u32),
+        Err(refusal) => Err(*refusal),
+    };
+    let (sheet, heap, records) = (lent.sheet.part(), lent.heap.part(), lent.records.part());
+    let mut rows = Guarded::new(pattern, sequence);
+    let mut chain = Guarded::new(&chain_pattern, sequence);
+    let (rows_part, chain_part) = (rows.part_mut(), chain.part_mut());
+    let answer = survey_answer(sheet, heap, records, lent.log.part(), rows_part, chain_part);
+    assert_eq!(answer, expected_answer(value), "{room:?}, {story}");
+    assert!(rows.holds(&expected_rows), "rows, {room:?}, {story}");
+    assert!(chain.holds(&expected_chain), "chain, {room:?}, {story}");
+    lent.assert_holds(image, story);
+    expected
+}
+
+fn note(counts: &mut Counts, image: &Image, room: Room, found: Result<Found, Refusal>) {
+    let found = match found {
+        Ok(found) => found,
+        Err(refusal) => return note_refusal(counts, image, room, refusal),
+    };
+    for finding in found.findings {
+        counts.note(Met::Verdict(finding.verdict.number()));
+    }
+    counts.note(Met::chain(found.chain.ending));
+    counts.note_extremes(image);
+}
+
+/// Notes a refusal, and its cause where the number alone does not say.
+fn note_refusal(counts: &mut Counts, image: &Image, room: Room, refusal: Refusal) {
+    counts.note_refusal(refusal);
+    let (sheet, heap, records) = (&image.sheet, &image.heap, &image.records);
+    let mut findings = vec![Finding::default(); room.rows / 3];
+    let rows_suffice = reference::inspect(sheet, heap, records, &mut findings).is_ok();
+    match refusal.number {
+        3 if reference::chain(sheet, heap, records).is_ok() => counts.note(LOG_WRONG),
+        11 if rows_suffice => counts.note(CHAIN_SHORT),
+        11 if room.chain >= 3 => counts.note(ROWS_SHORT),
+        _ => {}
+    }
+}
+
+#[test]
+fn hurt_images() {
+    let mut counts = Counts::default();
+    for number in 0..CASES {
+        let (case, mut sequence) = Case::new(SEED, number);
+        let room = Room {
+            rows: some_room(3 * case.image.shape.count, &mut sequence),
+            chain: some_room(3, &mut sequence),
+        };
+        let found = compare(&case.image, room, &mut sequence, &case);
+        note(&mut counts, &case.image, room, found);
+    }
+    let causes = [ROWS_SHORT, CHAIN_SHORT, LOG_WRONG];
+    let wanted = [&VERDICTS[..], &ENDINGS, &READ_REFUSALS, &EXTREMES, &causes].concat();
+    counts.finish("survey, hurt images", SEED, &wanted);
+}
+
+/// Every room from none to more than enough, for the dump's three buffers.
+#[test]
+fn every_room() {
+    let mut sequence = Sequence::new(SEED);
+    let mut counts = Counts::default();
+    let image = dump();
+    for rows in 0..13 {
+        for chain in 0..6 {
+            let room = Room { rows, chain };
+            let found = compare(&image, room, &mut sequence, &image);
+            assert_eq!(found.is_ok(), rows >= 9 && chain >= 3, "{room:?}");
+            note(&mut counts, &image, room, found);
+        }
+    }
+    let wanted = [ROWS_SHORT, CHAIN_SHORT, Met::Refusal(11, 0)];
+    counts.finish("survey, every room", SEED, &wanted);
+}
+
+/// The dump with its head and each of its three next words at 0, at each record, and
+/// where no record starts.
+#[test]
+fn every_chain() {
+    let mut sequence = Sequence::new(SEED);
+    let mut counts = Counts::default();
+    let mut image = dump();
+    let [first, second, third] = [0, 1, 2].map(|record| image.shape.record_address(record));
+    let targets = [0, first, second, third, second + 4];
+    let room = Room { rows: 9, chain: 3 };
+    for choice in 0..5 * 5 * 5 * 5 {
+        let target = |place: u32| targets[choice / 5usize.pow(place) % 5];
+        put_word(&mut image.sheet, HEAD_BODY, target(3));
+        for record in 0..3 {
+            let next = RECORD_SIZE * record as usize;
+            put_word(&mut image.records, next, target(record));
+        }
+        let found = compare(&image, room, &mut sequence, &image);
+        note(&mut counts, &image, room, found);
+    }
+    counts.finish("survey, every chain of three records", SEED, &ENDINGS);
+}

@@ -1,0 +1,17 @@
+//! How long a record and a log row are, and where a record's words stand.
+
+/// "n records of 96 bytes."
+pub const RECORD_SIZE: usize = 96;
+
+/// Where a record's words stand: "next at 0, buffer address 4, slab 8, cache 12,
+/// timestamp 16 (eight bytes), thread 24".
+pub const NEXT_AT: usize = 0;
+pub const ADDRESS_AT: usize = 4;
+pub const CACHE_AT: usize = 12;
+pub const STAMP_HIGH_AT: usize = 16;
+pub const STAMP_LOW_AT: usize = 20;
+pub const THREAD_AT: usize = 24;
+
+/// "The log is 0 to 1,024 rows of 16 bytes: record address, uptime, thread, kind."
+pub const ROW_SIZE: usize = 16;
+pub const MOST_LOG_BYTES: usize = 16_384;
