@@ -4,7 +4,7 @@ ghost use mathlib.Core.Bool.{true};
 ghost use Prim.Native.Nat.{_*_, _<_};
 ghost use lib.ListN.{length};
 ghost use Rattle.chunks.specs.Chunk.{lawfulSize};
-ghost use Rattle.opening.specs.Areas.{areas};
+ghost use Rattle.opening.specs.Areas.{lent, before, after, byLengths, result};
 ghost use Rattle.opening.specs.Sheet.{Lawful, Open};
 ghost use Rattle.allocation.specs.Allocate.{ifFree, takenChunk, takenHead, takenOf, SpotIf, allocatePlan, TakenIf, Takes, grantedAreas, allocateOf};
 use area::place;
@@ -139,8 +139,8 @@ fn take(heap: &[u8], records: &[u8], g: Sheet, grant: Grant) -> AllocatePlan
 
 // What an allocation will do. It reads and writes nothing.
 fn plan(sheet: &[u8], heap: &[u8], records: &[u8], grant: Grant) -> AllocatePlan
-    ensures { λ r. ⌜ r ≡ allocatePlan (areas (now (sheet .entry)) (now (heap .entry)) (now (records .entry))) grant ⌝ }
-    ensures { λ r. ⌜ TakenIf (length (now (sheet .entry))) (length (now (heap .entry))) (length (now (records .entry))) grant r ⌝ }
+    ensures { λ r. ⌜ r ≡ allocatePlan (before sheet heap records) grant ⌝ }
+    ensures { λ r. ⌜ byLengths TakenIf (before sheet heap records) grant r ⌝ }
 {
     let opened = sheet::open(sheet, heap.len(), records.len());
     match opened {
@@ -159,10 +159,8 @@ fn commit(
     uptime: u32,
     thread: u32,
 )
-    requires { ⌜ Takes (length (now sheet)) (length (now heap)) (length (now records)) grant p ⌝ }
-    ensures sheet { λ _. ⌜ now (sheet .exit) ≡ grantedAreas (areas (now (sheet .entry)) (now (heap .entry)) (now (records .entry))) grant uptime thread p .sheet ⌝ }
-    ensures heap { λ _. ⌜ now (heap .exit) ≡ grantedAreas (areas (now (sheet .entry)) (now (heap .entry)) (now (records .entry))) grant uptime thread p .heap ⌝ }
-    ensures records { λ _. ⌜ now (records .exit) ≡ grantedAreas (areas (now (sheet .entry)) (now (heap .entry)) (now (records .entry))) grant uptime thread p .records ⌝ }
+    requires { ⌜ byLengths Takes (lent sheet heap records) grant p ⌝ }
+    ensures { λ _. ⌜ after sheet heap records ≡ grantedAreas (before sheet heap records) grant uptime thread p ⌝ }
 {
     let g = p.sheet;
     let at = p.buffer * g.chunk;
@@ -182,10 +180,7 @@ pub fn allocate(
     uptime: u32,
     thread: u32,
 ) -> Allocated
-    ensures answer { λ r. ⌜ r ≡ allocateOf (areas (now (sheet .entry)) (now (heap .entry)) (now (records .entry))) grant uptime thread .answer ⌝ }
-    ensures sheet { λ _. ⌜ now (sheet .exit) ≡ allocateOf (areas (now (sheet .entry)) (now (heap .entry)) (now (records .entry))) grant uptime thread .areas .sheet ⌝ }
-    ensures heap { λ _. ⌜ now (heap .exit) ≡ allocateOf (areas (now (sheet .entry)) (now (heap .entry)) (now (records .entry))) grant uptime thread .areas .heap ⌝ }
-    ensures records { λ _. ⌜ now (records .exit) ≡ allocateOf (areas (now (sheet .entry)) (now (heap .entry)) (now (records .entry))) grant uptime thread .areas .records ⌝ }
+    ensures { λ r. ⌜ result r (after sheet heap records) ≡ allocateOf (before sheet heap records) grant uptime thread ⌝ }
 {
     let planned = plan(sheet, heap, records, grant);
     match planned {

@@ -3,8 +3,7 @@
 // The layer promises: the three areas of a lawful request are written whole, buffer i paired with record i and the chain
 // from record 0 on in order; any other request is refused, and every lent byte is as before.
 ghost use mathlib.Core.Path.{_≡_};
-ghost use lib.ListN.{length};
-ghost use Rattle.opening.specs.Areas.{areas};
+ghost use Rattle.opening.specs.Areas.{lent, before, after, byLengths, result};
 ghost use Rattle.layout.specs.Layout.{laidSheet, laidAreas, layOutOf, layOutPlan, PlannedIf, Planned};
 use area::refusal::Outcome;
 use area::refusal::Refusal;
@@ -47,10 +46,8 @@ fn plan(g: Sheet, sheet_len: usize, heap_len: usize, records_len: usize) -> Open
 
 // Writes all three areas.
 fn commit(sheet: &mut [u8], heap: &mut [u8], records: &mut [u8], g: Sheet)
-    requires { ⌜ Planned (length (now sheet)) (length (now heap)) (length (now records)) g ⌝ }
-    ensures sheet { λ _. ⌜ now (sheet .exit) ≡ laidAreas g .sheet ⌝ }
-    ensures heap { λ _. ⌜ now (heap .exit) ≡ laidAreas g .heap ⌝ }
-    ensures records { λ _. ⌜ now (records .exit) ≡ laidAreas g .records ⌝ }
+    requires { ⌜ byLengths Planned (lent sheet heap records) g ⌝ }
+    ensures { λ _. ⌜ after sheet heap records ≡ laidAreas g ⌝ }
 {
     fields::write_sheet(sheet, g);
     places::write_heap(heap, g);
@@ -68,10 +65,8 @@ pub fn lay_out(
     heap: &mut [u8],
     records: &mut [u8],
 ) -> Outcome
-    ensures answer { λ r. ⌜ r ≡ layOutOf (areas (now (sheet .entry)) (now (heap .entry)) (now (records .entry))) cache «heap_base» «record_base» size count .answer ⌝ }
-    ensures sheet { λ _. ⌜ now (sheet .exit) ≡ layOutOf (areas (now (sheet .entry)) (now (heap .entry)) (now (records .entry))) cache «heap_base» «record_base» size count .areas .sheet ⌝ }
-    ensures heap { λ _. ⌜ now (heap .exit) ≡ layOutOf (areas (now (sheet .entry)) (now (heap .entry)) (now (records .entry))) cache «heap_base» «record_base» size count .areas .heap ⌝ }
-    ensures records { λ _. ⌜ now (records .exit) ≡ layOutOf (areas (now (sheet .entry)) (now (heap .entry)) (now (records .entry))) cache «heap_base» «record_base» size count .areas .records ⌝ }
+    ensures { λ r. ⌜ result r (after sheet heap records)
+        ≡ layOutOf (before sheet heap records) cache «heap_base» «record_base» size count ⌝ }
 {
     let asked = sheet_for(cache, heap_base, record_base, size, count);
     let planned = plan(asked, sheet.len(), heap.len(), records.len());

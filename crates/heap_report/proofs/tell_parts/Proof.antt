@@ -15,12 +15,6 @@ slice-aggregate-tell-2 c = sym (length-take-le _ _ (omega arith))
 slice-aggregate-tell-3 : tie.Need-slice-aggregate-tell-3
 slice-aggregate-tell-3 c = sym (length-take-le _ _ (omega arith))
 
-tell-requires : tie.Need-tell-requires
-tell-requires c κs = search needs
-
-returns : tie.Need-returns
-returns c = search needs
-
 pub tell-parts-spec : {M : Type 1} → statement M
 tell-parts-spec =
     tie.close
@@ -28,5 +22,5 @@ tell-parts-spec =
     slice-aggregate-tell
     slice-aggregate-tell-2
     slice-aggregate-tell-3
-    tell-requires
-    returns)
+    (λ c κs. search needs)
+    (λ c. search needs))

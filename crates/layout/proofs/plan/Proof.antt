@@ -10,9 +10,6 @@ returns : tie.Need-returns
 unfolding layOutPlan
 returns c = (rw (ne-eqb _ _ (c .if1 .taken)), tt)
 
-judge-numbers-requires : tie.Need-judge-numbers-requires
-judge-numbers-requires c κs = search needs
-
 returns-2 : tie.Need-returns-2
 unfolding layOutPlan
 returns-2 c =
@@ -22,4 +19,4 @@ returns-2 c =
     )
 
 pub plan-spec : {M : Type 1} → statement M
-plan-spec = tie.close (tie.spec returns judge-numbers-requires returns-2)
+plan-spec = tie.close (tie.spec returns (λ c κs. search needs) returns-2)

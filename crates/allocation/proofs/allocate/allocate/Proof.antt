@@ -1,5 +1,5 @@
 -- What the plan found is written; a refusal writes nothing. Assumes nothing.
-use mathlib.Core.Path.{refl, subst}
+use mathlib.Core.Path.{subst}
 use native.Mathlib.Omega.{arith}
 use borrow.Author.Needs.{needs}
 use lib.ListN.{length}
@@ -7,15 +7,6 @@ use Rattle.allocation.specs.Allocate.{allocateOf, TakenIf, Takes}
 use Rattle.opening.proofs.Sheets.{chunk-small, buffer-word}
 use Rattle.allocation.proofs.allocate.allocate.Statement.{statement}
 use Rattle.allocation.proofs.allocate.allocate.Tie as tie
-
-plan-requires : tie.Need-plan-requires
-plan-requires c κs = search needs
-
-enum-known-planned : tie.Need-enum-known-planned
-enum-known-planned c = search needs
-
-enum-known-planned-2 : tie.Need-enum-known-planned-2
-enum-known-planned-2 c = search needs
 
 -- what the plan knows of the buffer
 taken : (c : tie.After-planned2)
@@ -34,48 +25,30 @@ cast-t26 c = let k = taken (c .before .before .before .before .before .before .b
 add-t27 : tie.Need-add-t27
 add-t27 c = let k = taken (c .before .before .before .before .before .before .before .before .before .before .before .before .before .before .before) in let b = buffer-word _ (k .ready .opened .law) _ (k .ready .buffer) in omega (arith, k .ready .opened .law .sizes .least, k .ready .opened .law .sizes .chunks)
 
-same-length : tie.Need-same-length
-same-length c = search needs
-
-same-length-2 : tie.Need-same-length-2
-same-length-2 c = search needs
-
-same-length-3 : tie.Need-same-length-3
-same-length-3 c = search needs
-
 returns : tie.Need-returns
 unfolding allocateOf
-returns c = rw (← c .before .before .before .plan .ensures .0, c .before .planned .given .1) (refl, (refl, (refl, refl)))
-
-same-length-4 : tie.Need-same-length-4
-same-length-4 c = search needs
-
-same-length-5 : tie.Need-same-length-5
-same-length-5 c = search needs
-
-same-length-6 : tie.Need-same-length-6
-same-length-6 c = search needs
+returns c = rw (← c .before .before .before .plan .ensures .0, c .before .planned .given .1)
 
 returns-2 : tie.Need-returns-2
 unfolding allocateOf
-returns-2 c = rw (← c .before .before .before .before .before .before .before .before .before .before .before .before .before .before .before .before .before .plan .ensures .0, c .before .before .before .before .before .before .before .before .before .before .before .before .before .before .before .planned2 .given .1) (refl, c .before .before .before .before .before .before .before .before .before .before .commit .ensures)
+returns-2 c = rw (← c .before .before .before .before .before .before .before .before .before .before .before .before .before .before .before .before .before .plan .ensures .0, c .before .before .before .before .before .before .before .before .before .before .before .before .before .before .before .planned2 .given .1, c .before .before .before .before .before .before .before .before .before .before .commit .ensures)
 
 pub allocate-spec : {M : Type 1} → statement M
 allocate-spec =
     tie.close
     (tie.spec
-    plan-requires
-    enum-known-planned
-    enum-known-planned-2
+    (λ c κs. search needs)
+    (λ c. search needs)
+    (λ c. search needs)
     commit-requires
     mul-t25
     cast-t26
     add-t27
-    same-length
-    same-length-2
-    same-length-3
+    (λ c. search needs)
+    (λ c. search needs)
+    (λ c. search needs)
     returns
-    same-length-4
-    same-length-5
-    same-length-6
+    (λ c. search needs)
+    (λ c. search needs)
+    (λ c. search needs)
     returns-2)

@@ -18,15 +18,6 @@ mul-at c = let s = c .before .before .before .before .before .before in let k = 
 add-end : tie.Need-add-end
 add-end c = let s = c .before .before .before .before .before .before .before in let k = chunk-small (s .args .p .sheet) (s .pre .ready .opened .law) _ (s .pre .ready .buffer) in omega arith
 
-read-requires : tie.Need-read-requires
-read-requires c κs = search needs
-
-sub-write-granted : tie.Need-sub-write-granted
-sub-write-granted c = search needs
-
-part-write-granted-start : tie.Need-part-write-granted-start
-part-write-granted-start c = search needs
-
 part-write-granted-end : tie.Need-part-write-granted-end
 part-write-granted-end c = let s = c .before .before .before .before .before .before .before .before .before in let k = chunk-inside (s .args .p .sheet) (s .pre .ready .opened .law) _ (s .pre .ready .buffer) in let e = s .pre .ready .opened .heapLong in omega arith
 
@@ -37,33 +28,20 @@ write-granted-requires c κs =
     let p = s .args .p in
     (lent-lawful (s .args .heap .now) (p .sheet) (p .buffer) (k .opened .law) (k .opened .heapLong) (k .buffer), subst (λ (n : ℕ). lawfulSize n (s .args .grant) ≡ true) (sym (lent-size (s .args .heap .now) (p .sheet) (p .buffer) (k .opened .law) (k .opened .heapLong) (k .buffer))) (s .pre .granted))
 
-stamp-requires : tie.Need-stamp-requires
-stamp-requires c κs = search needs
-
-write-u32-requires : tie.Need-write-u32-requires
-write-u32-requires c κs = search needs
-
-same-length : tie.Need-same-length
-same-length c = search needs
-
-same-length-2 : tie.Need-same-length-2
-same-length-2 c = search needs
-
-same-length-3 : tie.Need-same-length-3
-same-length-3 c = search needs
-
 returns : tie.Need-returns
 unfolding grantedAreas
 returns c =
     let s = c .before .before .before .before .before .before .before .before .before .before .before .before .before .before .before .before .before .before .before .before .before in
     let k = s .pre .ready in
     let p = s .args .p in
-    let g = p .sheet in (
-      c .before .before .write-u32 .ensures ∙ ap (withHead (s .args .sheet .now)) (c .before .before .before .before .before .before .before .before .before .before .before .before .read .ensures),
-      (
-        chunk-back (s .args .heap .now) g (p .buffer) (k .opened .law) (k .opened .heapLong) (k .buffer) (λ (n : ℕ). grantedChunk n (g .head) (s .args .grant)) (c .before .before .before .before .before .before .before .before .before .before .write-granted .last .0) (λ n. length-grantedChunk n (g .head) (s .args .grant)) (c .before .before .before .before .before .before .before .before .before .before .write-granted .ensures),
-        c .before .before .before .before .before .before .stamp .ensures,
-      ),
+    let g = p .sheet in
+    let written = c .before .before .before .before .before .before .before .before .before .before .write-granted in
+    rw (
+      c .before .before .write-u32 .ensures,
+      c .before .before .before .before .before .before .before .before .before .before .before .before .read .ensures,
+      chunk-back (s .args .heap .now) g (p .buffer) (k .opened .law) (k .opened .heapLong) (k .buffer) (λ (n : ℕ). grantedChunk n (g .head) (s .args .grant))
+          (written .last .0) (λ n. length-grantedChunk n (g .head) (s .args .grant)) (written .ensures),
+      c .before .before .before .before .before .before .stamp .ensures,
     )
 
 pub commit-spec : {M : Type 1} → statement M
@@ -72,14 +50,14 @@ commit-spec =
     (tie.spec
     mul-at
     add-end
-    read-requires
-    sub-write-granted
-    part-write-granted-start
+    (λ c κs. search needs)
+    (λ c. search needs)
+    (λ c. search needs)
     part-write-granted-end
     write-granted-requires
-    stamp-requires
-    write-u32-requires
-    same-length
-    same-length-2
-    same-length-3
+    (λ c κs. search needs)
+    (λ c κs. search needs)
+    (λ c. search needs)
+    (λ c. search needs)
+    (λ c. search needs)
     returns)

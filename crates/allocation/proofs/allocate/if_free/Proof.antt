@@ -4,9 +4,6 @@ use borrow.Author.Needs.{needs}
 use Rattle.allocation.proofs.allocate.if_free.Statement.{statement}
 use Rattle.allocation.proofs.allocate.if_free.Tie as tie
 
-number-requires : tie.Need-number-requires
-number-requires c κs = search needs
-
 returns : tie.Need-returns
 returns c = rw (← c .before .number .ensures, eq-eqb _ _ (c .if1 .taken))
 
@@ -14,4 +11,4 @@ returns-2 : tie.Need-returns-2
 returns-2 c = rw (← c .before .number .ensures, ne-eqb _ _ (c .if1 .left))
 
 pub if-free-spec : {M : Type 1} → statement M
-if-free-spec = tie.close (tie.spec number-requires returns returns-2)
+if-free-spec = tie.close (tie.spec (λ c κs. search needs) returns returns-2)

@@ -9,15 +9,6 @@ use Rattle.opening.proofs.Sheets.{opened-long}
 use Rattle.allocation.proofs.allocate.plan.Statement.{statement}
 use Rattle.allocation.proofs.allocate.plan.Tie as tie
 
-open-requires : tie.Need-open-requires
-open-requires c κs = search needs
-
-enum-known-opened : tie.Need-enum-known-opened
-enum-known-opened c = search needs
-
-enum-known-opened-2 : tie.Need-enum-known-opened-2
-enum-known-opened-2 c = search needs
-
 take-requires : tie.Need-take-requires
 take-requires c κs = subst (OpenedIf _ _) (c .before .opened2 .given .1) (c .before .before .before .«open» .ensures .1)
 
@@ -36,4 +27,4 @@ returns-2 c =
 pub plan-spec : {M : Type 1} → statement M
 plan-spec =
     tie.close
-    (tie.spec open-requires enum-known-opened enum-known-opened-2 take-requires returns returns-2)
+    (tie.spec (λ c κs. search needs) (λ c. search needs) (λ c. search needs) take-requires returns returns-2)

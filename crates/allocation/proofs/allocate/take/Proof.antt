@@ -6,9 +6,6 @@ use Rattle.allocation.specs.Allocate.{takenOf}
 use Rattle.allocation.proofs.allocate.take.Statement.{statement}
 use Rattle.allocation.proofs.allocate.take.Tie as tie
 
-lawful-size-requires : tie.Need-lawful-size-requires
-lawful-size-requires c κs = search needs
-
 returns : tie.Need-returns
 unfolding takenOf
 returns c = (rw (← c .before .before .before .lawful-size .ensures, c .before .before .if1 .taken, eq-eqb _ _ (c .if2 .taken)), tt)
@@ -26,4 +23,4 @@ returns-3 c = (rw (← c .before .lawful-size .ensures, c .if1 .left), tt)
 
 pub take-spec : {M : Type 1} → statement M
 take-spec =
-    tie.close (tie.spec lawful-size-requires returns take-head-requires returns-2 returns-3)
+    tie.close (tie.spec (λ c κs. search needs) returns take-head-requires returns-2 returns-3)

@@ -7,30 +7,12 @@ use Rattle.allocation.proofs.Takings.{free-spot}
 use Rattle.allocation.proofs.allocate.take_chunk.Statement.{statement}
 use Rattle.allocation.proofs.allocate.take_chunk.Tie as tie
 
-read-tag-requires : tie.Need-read-tag-requires
-read-tag-requires c κs = search needs
-
 returns : tie.Need-returns
 unfolding takenChunk
 returns c = (rw (← c .before .before .before .read-tag .ensures, ne-eqb _ _ (c .if1 .taken)), tt)
 
-pattern-requires : tie.Need-pattern-requires
-pattern-requires c κs = search needs
-
 enum-told : tie.Need-enum-told
 enum-told c = search needs
-
-enum-told-2 : tie.Need-enum-told-2
-enum-told-2 c = search needs
-
-enum-told-3 : tie.Need-enum-told-3
-enum-told-3 c = search needs
-
-judge-free-requires : tie.Need-judge-free-requires
-judge-free-requires c κs = search needs
-
-if-free-requires : tie.Need-if-free-requires
-if-free-requires c κs = search needs
 
 returns-2 : tie.Need-returns-2
 unfolding takenChunk
@@ -52,14 +34,14 @@ pub take-chunk-spec : {M : Type 1} → statement M
 take-chunk-spec =
     tie.close
     (tie.spec
-    read-tag-requires
+    (λ c κs. search needs)
     returns
-    pattern-requires
+    (λ c κs. search needs)
     enum-told
-    enum-told-2
-    enum-told-3
-    judge-free-requires
-    if-free-requires
+    (λ c. search needs)
+    (λ c. search needs)
+    (λ c κs. search needs)
+    (λ c κs. search needs)
     returns-2
     returns-3
     returns-4)

@@ -12,14 +12,8 @@ use Rattle.words.proofs.Parts.{part-lent}
 use Rattle.allocation.proofs.allocate.take_head.Statement.{statement}
 use Rattle.allocation.proofs.allocate.take_head.Tie as tie
 
-find-requires : tie.Need-find-requires
-find-requires c κs = search needs
-
 enum-told : tie.Need-enum-told
 enum-told c = search needs
-
-enum-known-head : tie.Need-enum-known-head
-enum-known-head c = search needs
 
 -- the head's record is one of the image's
 own : (c : tie.After-head) → c .head .given .0 .0 < c .before .before .before .before .before .args .g .count
@@ -37,26 +31,11 @@ read-requires c κs =
     let e = s .pre .0 .recordsLong in
     (omega arith, (omega arith, omega arith))
 
-find-requires-2 : tie.Need-find-requires-2
-find-requires-2 c κs = search needs
-
-enum-told-2 : tie.Need-enum-told-2
-enum-told-2 c = search needs
-
-enum-known-buffer : tie.Need-enum-known-buffer
-enum-known-buffer c = search needs
-
 mul-at : tie.Need-mul-at
 mul-at c = let s = c .before .before .before .before .before .before .before .before .before .before .before .before in let k = chunk-small (s .args .g) (s .pre .0 .law) _ (found (c .before .before)) in omega arith
 
 add-end : tie.Need-add-end
 add-end c = let s = c .before .before .before .before .before .before .before .before .before .before .before .before .before in let k = chunk-small (s .args .g) (s .pre .0 .law) _ (found (c .before .before .before)) in omega arith
-
-sub-take-chunk : tie.Need-sub-take-chunk
-sub-take-chunk c = search needs
-
-part-take-chunk-start : tie.Need-part-take-chunk-start
-part-take-chunk-start c = search needs
 
 part-take-chunk-end : tie.Need-part-take-chunk-end
 part-take-chunk-end c = let s = c .before .before .before .before .before .before .before .before .before .before .before .before .before in let k = chunk-inside (s .args .g) (s .pre .0 .law) _ (found (c .before .before .before)) in let e = s .pre .0 .heapLong in omega arith
@@ -89,17 +68,17 @@ pub take-head-spec : {M : Type 1} → statement M
 take-head-spec =
     tie.close
     (tie.spec
-    find-requires
+    (λ c κs. search needs)
     enum-told
-    enum-known-head
+    (λ c. search needs)
     read-requires
-    find-requires-2
-    enum-told-2
-    enum-known-buffer
+    (λ c κs. search needs)
+    (λ c. search needs)
+    (λ c. search needs)
     mul-at
     add-end
-    sub-take-chunk
-    part-take-chunk-start
+    (λ c. search needs)
+    (λ c. search needs)
     part-take-chunk-end
     take-chunk-requires
     returns

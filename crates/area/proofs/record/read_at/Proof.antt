@@ -4,12 +4,6 @@ use Rattle.window.proofs.Windows.{number-inside}
 use Rattle.area.proofs.record.read_at.Statement.{statement}
 use Rattle.area.proofs.record.read_at.Tie as tie
 
-read-word-requires : tie.Need-read-word-requires
-read-word-requires c κs = search needs
-
-enum-known-w : tie.Need-enum-known-w
-enum-known-w c = search needs
-
 enum-told : tie.Need-enum-told
 enum-told c = search needs
 
@@ -32,4 +26,4 @@ returns-2 c =
     cc
 
 pub read-at-spec : {M : Type 1} → statement M
-read-at-spec = tie.close (tie.spec read-word-requires enum-known-w enum-told returns returns-2)
+read-at-spec = tie.close (tie.spec (λ c κs. search needs) (λ c. search needs) enum-told returns returns-2)

@@ -5,36 +5,6 @@ use Rattle.chunks.proofs.Chunks.{laid}
 use Rattle.chunks.proofs.chunk.write.Statement.{statement}
 use Rattle.chunks.proofs.chunk.write.Tie as tie
 
-sub-size : tie.Need-sub-size
-sub-size c = search needs
-
-fill-requires : tie.Need-fill-requires
-fill-requires c κs = search needs
-
-write-u32-requires : tie.Need-write-u32-requires
-write-u32-requires c κs = search needs
-
-add-write-u32 : tie.Need-add-write-u32
-add-write-u32 c = search needs
-
-write-u32-requires-2 : tie.Need-write-u32-requires-2
-write-u32-requires-2 c κs = search needs
-
-add-write-u32-2 : tie.Need-add-write-u32-2
-add-write-u32-2 c = search needs
-
-write-u32-requires-3 : tie.Need-write-u32-requires-3
-write-u32-requires-3 c κs = search needs
-
-add-write-u32-3 : tie.Need-add-write-u32-3
-add-write-u32-3 c = search needs
-
-write-u32-requires-4 : tie.Need-write-u32-requires-4
-write-u32-requires-4 c κs = search needs
-
-same-length : tie.Need-same-length
-same-length c = search needs
-
 returns : tie.Need-returns
 returns c =
     let e = c .before .before .before .before .before .before .before .before .before .before .before .before .before .before .before .before .before .before in
@@ -44,14 +14,14 @@ pub write-spec : {M : Type 1} → statement M
 write-spec =
     tie.close
     (tie.spec
-    sub-size
-    fill-requires
-    write-u32-requires
-    add-write-u32
-    write-u32-requires-2
-    add-write-u32-2
-    write-u32-requires-3
-    add-write-u32-3
-    write-u32-requires-4
-    same-length
+    (λ c. search needs)
+    (λ c κs. search needs)
+    (λ c κs. search needs)
+    (λ c. search needs)
+    (λ c κs. search needs)
+    (λ c. search needs)
+    (λ c κs. search needs)
+    (λ c. search needs)
+    (λ c κs. search needs)
+    (λ c. search needs)
     returns)

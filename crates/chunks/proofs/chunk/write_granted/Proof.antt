@@ -7,17 +7,8 @@ use Rattle.chunks.proofs.Chunks.{lawful-within}
 use Rattle.chunks.proofs.chunk.write_granted.Statement.{statement}
 use Rattle.chunks.proofs.chunk.write_granted.Tie as tie
 
-new-requires : tie.Need-new-requires
-new-requires c κs = search needs
-
 enum-told : tie.Need-enum-told
 enum-told c = search needs
-
-write-requires : tie.Need-write-requires
-write-requires c κs = search needs
-
-enum-known-grant : tie.Need-enum-known-grant
-enum-known-grant c = search needs
 
 -- the size of the grant is one of the buffer's
 lawful : (c : tie.After-grant) → c .grant .given .0 .0 ≤ bufferSize (c .before .before .before .before .args .chunk .now)
@@ -26,24 +17,12 @@ lawful c = lawful-within _ _ _ (c .grant .given .1) (c .before .before .before .
 cast-encode : tie.Need-cast-encode
 cast-encode c = let h = lawful (c .before .before) in omega arith
 
-write-requires-2 : tie.Need-write-requires-2
-write-requires-2 c κs = search needs
-
-cast-i : tie.Need-cast-i
-cast-i c = search needs
-
 slice-write-chunk : tie.Need-slice-write-chunk
 slice-write-chunk c = let h = lawful (c .before .before .before .before .before .before) in omega arith
-
-same-length : tie.Need-same-length
-same-length c = search needs
 
 returns : tie.Need-returns
 unfolding grantedChunk
 returns c = rw (c .before .before .before .before .enum-told .given .1) (cc)
-
-same-length-2 : tie.Need-same-length-2
-same-length-2 c = search needs
 
 returns-2 : tie.Need-returns-2
 unfolding grantedChunk
@@ -53,16 +32,16 @@ pub write-granted-spec : {M : Type 1} → statement M
 write-granted-spec =
     tie.close
     (tie.spec
-    new-requires
+    (λ c κs. search needs)
     enum-told
-    write-requires
-    enum-known-grant
+    (λ c κs. search needs)
+    (λ c. search needs)
     cast-encode
     (λ c κs. search needs)
-    write-requires-2
-    cast-i
+    (λ c κs. search needs)
+    (λ c. search needs)
     slice-write-chunk
-    same-length
+    (λ c. search needs)
     returns
-    same-length-2
+    (λ c. search needs)
     returns-2)

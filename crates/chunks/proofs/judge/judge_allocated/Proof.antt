@@ -7,33 +7,12 @@ use Rattle.chunks.specs.Judge.{allocatedVerdict}
 use Rattle.chunks.proofs.judge.judge_allocated.Statement.{statement}
 use Rattle.chunks.proofs.judge.judge_allocated.Tie as tie
 
-sub-size : tie.Need-sub-size
-sub-size c = search needs
-
-add-read-u32 : tie.Need-add-read-u32
-add-read-u32 c = search needs
-
-read-u32-requires : tie.Need-read-u32-requires
-read-u32-requires c κs = search needs
-
-judge-zone-requires : tie.Need-judge-zone-requires
-judge-zone-requires c κs = search needs
-
 returns : tie.Need-returns
 unfolding allocatedVerdict
 returns c = rw (← c .before .before .read-u32 .ensures, eq-eqb _ _ (c .before .if1 .taken)) (c .judge-zone .ensures)
 
-cast-decode : tie.Need-cast-decode
-cast-decode c = search needs
-
-decode-requires : tie.Need-decode-requires
-decode-requires c κs = search needs
-
 enum-told : tie.Need-enum-told
 enum-told c = search needs
-
-enum-known-code : tie.Need-enum-known-code
-enum-known-code c = search needs
 
 judge-sized-requires : tie.Need-judge-sized-requires
 judge-sized-requires c κs = (search needs, decoded-within _ _ _ (sym (c .before .before .before .decode .ensures) ∙ c .before .code .given .1) .1)
@@ -50,15 +29,15 @@ pub judge-allocated-spec : {M : Type 1} → statement M
 judge-allocated-spec =
     tie.close
     (tie.spec
-    sub-size
-    add-read-u32
-    read-u32-requires
-    judge-zone-requires
+    (λ c. search needs)
+    (λ c. search needs)
+    (λ c κs. search needs)
+    (λ c κs. search needs)
     returns
-    cast-decode
-    decode-requires
+    (λ c. search needs)
+    (λ c κs. search needs)
     enum-told
-    enum-known-code
+    (λ c. search needs)
     judge-sized-requires
     returns-2
     returns-3)

@@ -7,15 +7,6 @@ use Rattle.chunks.specs.Judge.{freeVerdict}
 use Rattle.chunks.proofs.judge.judge_free.Statement.{statement}
 use Rattle.chunks.proofs.judge.judge_free.Tie as tie
 
-sub-size : tie.Need-sub-size
-sub-size c = search needs
-
-first-difference-requires : tie.Need-first-difference-requires
-first-difference-requires c κs = search needs
-
-enum-known-fill : tie.Need-enum-known-fill
-enum-known-fill c = search needs
-
 cast-t8 : tie.Need-cast-t8
 cast-t8 c = omega (arith, run-within _ _ _ _ (omega arith) _ _ (c .before .before .before .first-difference .ensures) (c .before .fill .given .1))
 
@@ -26,12 +17,6 @@ returns c = rw (← c .before .before .before .first-difference .ensures, c .bef
 enum-told : tie.Need-enum-told
 enum-told c = search needs
 
-first-difference-requires-2 : tie.Need-first-difference-requires-2
-first-difference-requires-2 c κs = search needs
-
-enum-known-zone : tie.Need-enum-known-zone
-enum-known-zone c = search needs
-
 -- the difference lies in the redzone
 zone-inside : (c : tie.After-known-told2) → c .before .zone .given .0 .0 < 8
 zone-inside c = run-within _ _ _ _ (omega arith) _ _ (c .before .before .before .first-difference2 .ensures) (c .before .zone .given .1)
@@ -41,9 +26,6 @@ add-t10 c = omega (arith, zone-inside c)
 
 cast-t11 : tie.Need-cast-t11
 cast-t11 c = omega (arith, zone-inside c)
-
-enum-told-2 : tie.Need-enum-told-2
-enum-told-2 c = search needs
 
 returns-2 : tie.Need-returns-2
 unfolding freeVerdict
@@ -57,16 +39,16 @@ pub judge-free-spec : {M : Type 1} → statement M
 judge-free-spec =
     tie.close
     (tie.spec
-    sub-size
-    first-difference-requires
-    enum-known-fill
+    (λ c. search needs)
+    (λ c κs. search needs)
+    (λ c. search needs)
     cast-t8
     returns
     enum-told
-    first-difference-requires-2
-    enum-known-zone
+    (λ c κs. search needs)
+    (λ c. search needs)
     add-t10
     cast-t11
-    enum-told-2
+    (λ c. search needs)
     returns-2
     returns-3)

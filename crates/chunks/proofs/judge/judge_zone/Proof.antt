@@ -7,15 +7,6 @@ use Rattle.words.proofs.Runs.{run-within}
 use Rattle.chunks.proofs.judge.judge_zone.Statement.{statement}
 use Rattle.chunks.proofs.judge.judge_zone.Tie as tie
 
-sub-size : tie.Need-sub-size
-sub-size c = search needs
-
-first-difference-requires : tie.Need-first-difference-requires
-first-difference-requires c κs = search needs
-
-enum-known-d : tie.Need-enum-known-d
-enum-known-d c = search needs
-
 -- the difference lies in R0
 inside : (c : tie.After-known-told) → c .before .d .given .0 .0 < 4
 inside c = run-within _ _ _ _ (omega arith) _ _ (c .before .before .before .first-difference .ensures) (c .before .d .given .1)
@@ -39,9 +30,9 @@ pub judge-zone-spec : {M : Type 1} → statement M
 judge-zone-spec =
     tie.close
     (tie.spec
-    sub-size
-    first-difference-requires
-    enum-known-d
+    (λ c. search needs)
+    (λ c κs. search needs)
+    (λ c. search needs)
     add-t9
     cast-t10
     enum-told

@@ -4,24 +4,6 @@ use Rattle.layout.proofs.Layouts.{field-run}
 use Rattle.layout.proofs.fields.write_long.Statement.{statement}
 use Rattle.layout.proofs.fields.write_long.Tie as tie
 
-write-u8-requires : tie.Need-write-u8-requires
-write-u8-requires c κs = search needs
-
-add-write-u16 : tie.Need-add-write-u16
-add-write-u16 c = search needs
-
-write-u16-requires : tie.Need-write-u16-requires
-write-u16-requires c κs = search needs
-
-add-write-u32 : tie.Need-add-write-u32
-add-write-u32 c = search needs
-
-write-u32-requires : tie.Need-write-u32-requires
-write-u32-requires c κs = search needs
-
-same-length : tie.Need-same-length
-same-length c = search needs
-
 returns : tie.Need-returns
 returns c = field-run _ _ _ _ _ _ _ _ (c .before .before .before .before .before .before .before .before .before .before .write-u8 .ensures) (c .before .before .before .before .before .before .write-u16 .ensures) (c .before .before .write-u32 .ensures)
 
@@ -29,10 +11,10 @@ pub write-long-spec : {M : Type 1} → statement M
 write-long-spec =
     tie.close
     (tie.spec
-    write-u8-requires
-    add-write-u16
-    write-u16-requires
-    add-write-u32
-    write-u32-requires
-    same-length
+    (λ c κs. search needs)
+    (λ c. search needs)
+    (λ c κs. search needs)
+    (λ c. search needs)
+    (λ c κs. search needs)
+    (λ c. search needs)
     returns)

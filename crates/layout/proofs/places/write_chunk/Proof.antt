@@ -15,29 +15,8 @@ mul-at c = let s = c .before .before in let k = chunk-small _ (s .pre .0) _ (s .
 add-end : tie.Need-add-end
 add-end c = let s = c .before .before .before in let k = chunk-small _ (s .pre .0) _ (s .pre .1 .0) in omega arith
 
-mul-own : tie.Need-mul-own
-mul-own c = search needs
-
-sub-write-free : tie.Need-sub-write-free
-sub-write-free c = search needs
-
-part-write-free-start : tie.Need-part-write-free-start
-part-write-free-start c = search needs
-
 part-write-free-end : tie.Need-part-write-free-end
 part-write-free-end c = let s = c .before .before .before in let k = chunk-inside _ (s .pre .0) _ (s .pre .1 .0) in omega arith
-
-cast-write-free : tie.Need-cast-write-free
-cast-write-free c = search needs
-
-add-write-free : tie.Need-add-write-free
-add-write-free c = search needs
-
-write-free-requires : tie.Need-write-free-requires
-write-free-requires c κs = search needs
-
-same-length : tie.Need-same-length
-same-length c = search needs
 
 returns : tie.Need-returns
 returns c =
@@ -51,12 +30,12 @@ write-chunk-spec =
     (tie.spec
     mul-at
     add-end
-    mul-own
-    sub-write-free
-    part-write-free-start
+    (λ c. search needs)
+    (λ c. search needs)
+    (λ c. search needs)
     part-write-free-end
-    cast-write-free
-    add-write-free
-    write-free-requires
-    same-length
+    (λ c. search needs)
+    (λ c. search needs)
+    (λ c κs. search needs)
+    (λ c. search needs)
     returns)

@@ -9,56 +9,14 @@ use Rattle.layout.proofs.Layouts.{record-run}
 use Rattle.layout.proofs.places.write_record.Statement.{statement}
 use Rattle.layout.proofs.places.write_record.Tie as tie
 
-mul-at : tie.Need-mul-at
-mul-at c = search needs
-
 mul-buffer : tie.Need-mul-buffer
 mul-buffer c = let s = c .before .before in let k = chunk-small _ (s .pre .0) _ (s .pre .1 .0) in omega arith
-
-add-write-u32 : tie.Need-add-write-u32
-add-write-u32 c = search needs
-
-add-link-to : tie.Need-add-link-to
-add-link-to c = search needs
-
-link-to-requires : tie.Need-link-to-requires
-link-to-requires c κs = search needs
-
-write-u32-requires : tie.Need-write-u32-requires
-write-u32-requires c κs = search needs
-
-add-write-u32-2 : tie.Need-add-write-u32-2
-add-write-u32-2 c = search needs
 
 cast-write-u32 : tie.Need-cast-write-u32
 cast-write-u32 c = let s = c .before .before .before .before .before .before .before .before in let k = chunk-small _ (s .pre .0) _ (s .pre .1 .0) in omega arith
 
 add-write-u32-3 : tie.Need-add-write-u32-3
 add-write-u32-3 c = let s = c .before .before .before .before .before .before .before .before .before in let k = buffer-word _ (s .pre .0) _ (s .pre .1 .0) in omega (arith, s .pre .0 .sizes .chunks)
-
-write-u32-requires-2 : tie.Need-write-u32-requires-2
-write-u32-requires-2 c κs = search needs
-
-add-write-u32-4 : tie.Need-add-write-u32-4
-add-write-u32-4 c = search needs
-
-write-u32-requires-3 : tie.Need-write-u32-requires-3
-write-u32-requires-3 c κs = search needs
-
-add-write-u32-5 : tie.Need-add-write-u32-5
-add-write-u32-5 c = search needs
-
-write-u32-requires-4 : tie.Need-write-u32-requires-4
-write-u32-requires-4 c κs = search needs
-
-add-fill : tie.Need-add-fill
-add-fill c = search needs
-
-fill-requires : tie.Need-fill-requires
-fill-requires c κs = search needs
-
-same-length : tie.Need-same-length
-same-length c = search needs
 
 returns : tie.Need-returns
 returns c =
@@ -69,21 +27,21 @@ pub write-record-spec : {M : Type 1} → statement M
 write-record-spec =
     tie.close
     (tie.spec
-    mul-at
+    (λ c. search needs)
     mul-buffer
-    add-write-u32
-    add-link-to
-    link-to-requires
-    write-u32-requires
-    add-write-u32-2
+    (λ c. search needs)
+    (λ c. search needs)
+    (λ c κs. search needs)
+    (λ c κs. search needs)
+    (λ c. search needs)
     cast-write-u32
     add-write-u32-3
-    write-u32-requires-2
-    add-write-u32-4
-    write-u32-requires-3
-    add-write-u32-5
-    write-u32-requires-4
-    add-fill
-    fill-requires
-    same-length
+    (λ c κs. search needs)
+    (λ c. search needs)
+    (λ c κs. search needs)
+    (λ c. search needs)
+    (λ c κs. search needs)
+    (λ c. search needs)
+    (λ c κs. search needs)
+    (λ c. search needs)
     returns)

@@ -8,15 +8,6 @@ use Rattle.lines.proofs.Texts.{then}
 use Rattle.lines.proofs.text.put_field.Statement.{statement}
 use Rattle.lines.proofs.text.put_field.Tie as tie
 
-put-decimal-requires : tie.Need-put-decimal-requires
-put-decimal-requires c κs = search needs
-
-put-requires : tie.Need-put-requires
-put-requires c κs = search needs
-
-same-length : tie.Need-same-length
-same-length c = search needs
-
 returns : tie.Need-returns
 returns c =
     let d = c .before .before .before .before .before .before .put-decimal in
@@ -26,4 +17,4 @@ returns c =
     (then (d .ensures .0) (w .ensures), omega (arith, d .ensures .1, s .pre .1))
 
 pub put-field-spec : {M : Type 1} → statement M
-put-field-spec = tie.close (tie.spec put-decimal-requires put-requires same-length returns)
+put-field-spec = tie.close (tie.spec (λ c κs. search needs) (λ c κs. search needs) (λ c. search needs) returns)

@@ -8,18 +8,6 @@ use Rattle.lines.proofs.Texts.{then}
 use Rattle.lines.proofs.text.put_labelled.Statement.{statement}
 use Rattle.lines.proofs.text.put_labelled.Tie as tie
 
-put-requires : tie.Need-put-requires
-put-requires c κs = search needs
-
-slice-aggregate-put-field : tie.Need-slice-aggregate-put-field
-slice-aggregate-put-field c = search needs
-
-put-field-requires : tie.Need-put-field-requires
-put-field-requires c κs = search needs
-
-same-length : tie.Need-same-length
-same-length c = search needs
-
 returns : tie.Need-returns
 returns c =
     let s = c .before .before .before .before .before .before .before .before .before .before .before in
@@ -31,4 +19,4 @@ returns c =
 pub put-labelled-spec : {M : Type 1} → statement M
 put-labelled-spec =
     tie.close
-    (tie.spec put-requires slice-aggregate-put-field put-field-requires same-length returns)
+    (tie.spec (λ c κs. search needs) (λ c. search needs) (λ c κs. search needs) (λ c. search needs) returns)

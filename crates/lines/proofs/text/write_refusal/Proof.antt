@@ -6,21 +6,6 @@ use Rattle.lines.specs.Text.{refusalLineOf}
 use Rattle.lines.proofs.text.write_refusal.Statement.{statement}
 use Rattle.lines.proofs.text.write_refusal.Tie as tie
 
-number-requires : tie.Need-number-requires
-number-requires c κs = search needs
-
-slice-relend-prefix-put-refusal : tie.Need-slice-relend-prefix-put-refusal
-slice-relend-prefix-put-refusal c = search needs
-
-slice-aggregate-put-refusal : tie.Need-slice-aggregate-put-refusal
-slice-aggregate-put-refusal c = search needs
-
-put-refusal-requires : tie.Need-put-refusal-requires
-put-refusal-requires c κs = search needs
-
-same-length : tie.Need-same-length
-same-length c = search needs
-
 returns : tie.Need-returns
 returns c =
     let a = c .before .before .before .before .before .before .before .args in
@@ -28,12 +13,6 @@ returns c =
     let t = refusalLineOf (c .before .before .before .before .before .number .result) in
     let s = too-short t (a .output .now) (p .last .0) (p .result) (p .ensures .0) (c .if1 .taken) in
     rw (← c .before .before .before .before .before .number .ensures) (s .0, (s .1, tt))
-
-put-refusal-requires-2 : tie.Need-put-refusal-requires-2
-put-refusal-requires-2 c κs = search needs
-
-same-length-2 : tie.Need-same-length-2
-same-length-2 c = search needs
 
 returns-2 : tie.Need-returns-2
 returns-2 c =
@@ -50,12 +29,12 @@ pub write-refusal-spec : {M : Type 1} → statement M
 write-refusal-spec =
     tie.close
     (tie.spec
-    number-requires
-    slice-relend-prefix-put-refusal
-    slice-aggregate-put-refusal
-    put-refusal-requires
-    same-length
+    (λ c κs. search needs)
+    (λ c. search needs)
+    (λ c. search needs)
+    (λ c κs. search needs)
+    (λ c. search needs)
     returns
-    put-refusal-requires-2
-    same-length-2
+    (λ c κs. search needs)
+    (λ c. search needs)
     returns-2)

@@ -6,18 +6,6 @@ use Rattle.lines.proofs.Texts.{too-short, long-enough}
 use Rattle.lines.proofs.text.write_report.Statement.{statement}
 use Rattle.lines.proofs.text.write_report.Tie as tie
 
-slice-relend-prefix-put-report : tie.Need-slice-relend-prefix-put-report
-slice-relend-prefix-put-report c = search needs
-
-slice-aggregate-put-report : tie.Need-slice-aggregate-put-report
-slice-aggregate-put-report c = search needs
-
-put-report-requires : tie.Need-put-report-requires
-put-report-requires c κs = search needs
-
-same-length : tie.Need-same-length
-same-length c = search needs
-
 returns : tie.Need-returns
 returns c =
     let a = c .before .before .before .before .before .before .before .args in
@@ -25,12 +13,6 @@ returns c =
     let t = textOf (rowNumber (a .rows .now)) (rowValue (a .rows .now)) (a .n) (a .met) (a .ending) in
     let s = too-short t (a .output .now) (p .last .0) (p .result) (p .ensures .0) (c .if1 .taken) in
     (s .0, (s .1, tt))
-
-put-report-requires-2 : tie.Need-put-report-requires-2
-put-report-requires-2 c κs = search needs
-
-same-length-2 : tie.Need-same-length-2
-same-length-2 c = search needs
 
 returns-2 : tie.Need-returns-2
 returns-2 c =
@@ -47,11 +29,11 @@ pub write-report-spec : {M : Type 1} → statement M
 write-report-spec =
     tie.close
     (tie.spec
-    slice-relend-prefix-put-report
-    slice-aggregate-put-report
-    put-report-requires
-    same-length
+    (λ c. search needs)
+    (λ c. search needs)
+    (λ c κs. search needs)
+    (λ c. search needs)
     returns
-    put-report-requires-2
-    same-length-2
+    (λ c κs. search needs)
+    (λ c. search needs)
     returns-2)

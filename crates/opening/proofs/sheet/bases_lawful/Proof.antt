@@ -21,29 +21,17 @@ returns-4 : tie.Need-returns-4
 unfolding basesLawful
 returns-4 c = rw (ne-eqb _ _ (c .before .before .before .if1 .left), eq-eqb _ _ (c .before .before .if2 .left), ne-eqb _ _ (c .before .if3 .left), ne-eqb _ _ (c .if4 .taken))
 
-add-if5 : tie.Need-add-if5
-add-if5 c = search needs
-
 returns-5 : tie.Need-returns-5
 unfolding basesLawful
 returns-5 c = rw (ne-eqb _ _ (c .before .before .before .before .if1 .left), eq-eqb _ _ (c .before .before .before .if2 .left), ne-eqb _ _ (c .before .before .if3 .left), eq-eqb _ _ (c .before .if4 .left), lt-leb _ _ (c .if5 .taken))
-
-add-if6 : tie.Need-add-if6
-add-if6 c = search needs
 
 returns-6 : tie.Need-returns-6
 unfolding basesLawful
 returns-6 c = rw (ne-eqb _ _ (c .before .before .before .before .before .if1 .left), eq-eqb _ _ (c .before .before .before .before .if2 .left), ne-eqb _ _ (c .before .before .before .if3 .left), eq-eqb _ _ (c .before .before .if4 .left), le-leb _ _ (c .before .if5 .left), lt-leb _ _ (c .if6 .taken))
 
-add-if7 : tie.Need-add-if7
-add-if7 c = search needs
-
 returns-7 : tie.Need-returns-7
 unfolding basesLawful
 returns-7 c = rw (ne-eqb _ _ (c .before .before .before .before .before .before .if1 .left), eq-eqb _ _ (c .before .before .before .before .before .if2 .left), ne-eqb _ _ (c .before .before .before .before .if3 .left), eq-eqb _ _ (c .before .before .before .if4 .left), le-leb _ _ (c .before .before .if5 .left), le-leb _ _ (c .before .if6 .left), le-leb _ _ (c .if7 .taken))
-
-add-result : tie.Need-add-result
-add-result c = search needs
 
 returns-8 : tie.Need-returns-8
 unfolding basesLawful
@@ -57,11 +45,11 @@ bases-lawful-spec =
     returns-2
     returns-3
     returns-4
-    add-if5
+    (λ c. search needs)
     returns-5
-    add-if6
+    (λ c. search needs)
     returns-6
-    add-if7
+    (λ c. search needs)
     returns-7
-    add-result
+    (λ c. search needs)
     returns-8)

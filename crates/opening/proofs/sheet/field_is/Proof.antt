@@ -5,18 +5,9 @@ use Rattle.opening.specs.Sheet.{fieldIs}
 use Rattle.opening.proofs.sheet.field_is.Statement.{statement}
 use Rattle.opening.proofs.sheet.field_is.Tie as tie
 
-read-u8-requires : tie.Need-read-u8-requires
-read-u8-requires c κs = search needs
-
 returns : tie.Need-returns
 unfolding fieldIs
 returns c = rw (← c .before .read-u8 .ensures, ne-eqb _ _ (c .if1 .taken))
-
-add-read-u16 : tie.Need-add-read-u16
-add-read-u16 c = search needs
-
-read-u16-requires : tie.Need-read-u16-requires
-read-u16-requires c κs = search needs
 
 returns-2 : tie.Need-returns-2
 unfolding fieldIs
@@ -24,4 +15,4 @@ returns-2 c = rw (← c .before .before .read-u8 .ensures, ← c .read-u16 .ensu
 
 pub field-is-spec : {M : Type 1} → statement M
 field-is-spec =
-    tie.close (tie.spec read-u8-requires returns add-read-u16 read-u16-requires returns-2)
+    tie.close (tie.spec (λ c κs. search needs) returns (λ c. search needs) (λ c κs. search needs) returns-2)

@@ -7,15 +7,6 @@ use Rattle.opening.specs.Sheet.{lawful}
 use Rattle.opening.proofs.sheet.is_lawful.Statement.{statement}
 use Rattle.opening.proofs.sheet.is_lawful.Tie as tie
 
-sizes-lawful-requires : tie.Need-sizes-lawful-requires
-sizes-lawful-requires c κs = search needs
-
-cast-bases-lawful : tie.Need-cast-bases-lawful
-cast-bases-lawful c = search needs
-
-cast-bases-lawful-2 : tie.Need-cast-bases-lawful-2
-cast-bases-lawful-2 c = search needs
-
 mul-bases-lawful : tie.Need-mul-bases-lawful
 mul-bases-lawful c = let k = sizes-known _ _ _ _ (sym (c .before .before .before .before .sizes-lawful .ensures) ∙ c .before .before .before .if1 .taken) in omega arith
 
@@ -37,9 +28,9 @@ pub is-lawful-spec : {M : Type 1} → statement M
 is-lawful-spec =
     tie.close
     (tie.spec
-    sizes-lawful-requires
-    cast-bases-lawful
-    cast-bases-lawful-2
+    (λ c κs. search needs)
+    (λ c. search needs)
+    (λ c. search needs)
     mul-bases-lawful
     mul-bases-lawful-2
     bases-lawful-requires

@@ -10,30 +10,6 @@ returns : tie.Need-returns
 unfolding shaped
 returns c = rw (ne-eqb _ _ (c .if1 .taken))
 
-field-is-requires : tie.Need-field-is-requires
-field-is-requires c κs = search needs
-
-field-is-requires-2 : tie.Need-field-is-requires-2
-field-is-requires-2 c κs = search needs
-
-field-is-requires-3 : tie.Need-field-is-requires-3
-field-is-requires-3 c κs = search needs
-
-field-is-requires-4 : tie.Need-field-is-requires-4
-field-is-requires-4 c κs = search needs
-
-field-is-requires-5 : tie.Need-field-is-requires-5
-field-is-requires-5 c κs = search needs
-
-field-is-requires-6 : tie.Need-field-is-requires-6
-field-is-requires-6 c κs = search needs
-
-field-is-requires-7 : tie.Need-field-is-requires-7
-field-is-requires-7 c κs = search needs
-
-field-is-requires-8 : tie.Need-field-is-requires-8
-field-is-requires-8 c κs = search needs
-
 returns-2 : tie.Need-returns-2
 unfolding shaped
 returns-2 c = rw (eq-eqb _ _ (c .before .before .before .before .before .before .before .before .if1 .left))
@@ -45,12 +21,12 @@ is-shaped-spec =
     tie.close
     (tie.spec
     returns
-    field-is-requires
-    field-is-requires-2
-    field-is-requires-3
-    field-is-requires-4
-    field-is-requires-5
-    field-is-requires-6
-    field-is-requires-7
-    field-is-requires-8
+    (λ c κs. search needs)
+    (λ c κs. search needs)
+    (λ c κs. search needs)
+    (λ c κs. search needs)
+    (λ c κs. search needs)
+    (λ c κs. search needs)
+    (λ c κs. search needs)
+    (λ c κs. search needs)
     returns-2)

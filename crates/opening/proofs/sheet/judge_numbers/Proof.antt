@@ -6,9 +6,6 @@ use Rattle.opening.specs.Sheet.{numbered}
 use Rattle.opening.proofs.sheet.judge_numbers.Statement.{statement}
 use Rattle.opening.proofs.sheet.judge_numbers.Tie as tie
 
-is-lawful-requires : tie.Need-is-lawful-requires
-is-lawful-requires c κs = search needs
-
 measure-requires : tie.Need-measure-requires
 measure-requires c κs = lawful-known _ (sym (c .before .is-lawful .ensures) ∙ c .if1 .taken)
 
@@ -21,4 +18,4 @@ unfolding numbered
 returns-2 c = (rw (← c .before .is-lawful .ensures, c .if1 .left), tt)
 
 pub judge-numbers-spec : {M : Type 1} → statement M
-judge-numbers-spec = tie.close (tie.spec is-lawful-requires measure-requires returns returns-2)
+judge-numbers-spec = tie.close (tie.spec (λ c κs. search needs) measure-requires returns returns-2)

@@ -5,15 +5,9 @@ use Rattle.opening.specs.Sheet.{measured}
 use Rattle.opening.proofs.sheet.measure.Statement.{statement}
 use Rattle.opening.proofs.sheet.measure.Tie as tie
 
-mul-if1 : tie.Need-mul-if1
-mul-if1 c = search needs
-
 returns : tie.Need-returns
 unfolding measured
 returns c = (rw (ne-eqb _ _ (c .if1 .taken)), tt)
-
-mul-if2 : tie.Need-mul-if2
-mul-if2 c = search needs
 
 returns-2 : tie.Need-returns-2
 unfolding measured
@@ -24,4 +18,4 @@ unfolding measured
 returns-3 c = (rw (eq-eqb _ _ (c .before .before .if1 .left), eq-eqb _ _ (c .if2 .left)), record { law = c .before .before .before .before .pre; heapLong = c .before .before .if1 .left; recordsLong = c .if2 .left })
 
 pub measure-spec : {M : Type 1} → statement M
-measure-spec = tie.close (tie.spec mul-if1 returns mul-if2 returns-2 returns-3)
+measure-spec = tie.close (tie.spec (λ c. search needs) returns (λ c. search needs) returns-2 returns-3)

@@ -7,9 +7,6 @@ use Rattle.opening.specs.Sheet.{areasOf}
 use Rattle.opening.proofs.sheet.measure_areas.Statement.{statement}
 use Rattle.opening.proofs.sheet.measure_areas.Tie as tie
 
-is-lawful-requires : tie.Need-is-lawful-requires
-is-lawful-requires c κs = search needs
-
 mul-t3 : tie.Need-mul-t3
 mul-t3 c = let l = lawful-known _ (sym (c .before .before .is-lawful .ensures) ∙ c .before .if1 .taken) in omega arith
 
@@ -27,4 +24,4 @@ unfolding areasOf
 returns-2 c = (rw (← c .before .is-lawful .ensures, c .if1 .left), tt)
 
 pub measure-areas-spec : {M : Type 1} → statement M
-measure-areas-spec = tie.close (tie.spec is-lawful-requires mul-t3 mul-t4 returns returns-2)
+measure-areas-spec = tie.close (tie.spec (λ c κs. search needs) mul-t3 mul-t4 returns returns-2)

@@ -6,15 +6,6 @@ use Rattle.opening.specs.Sheet.{openedWithLog, OpenedIf}
 use Rattle.opening.proofs.sheet.open_with_log.Statement.{statement}
 use Rattle.opening.proofs.sheet.open_with_log.Tie as tie
 
-open-requires : tie.Need-open-requires
-open-requires c κs = search needs
-
-enum-known-opened : tie.Need-enum-known-opened
-enum-known-opened c = search needs
-
-enum-known-opened-2 : tie.Need-enum-known-opened-2
-enum-known-opened-2 c = search needs
-
 returns : tie.Need-returns
 unfolding openedWithLog
 returns c = (rw (← c .before .before .before .before .«open» .ensures .0, c .before .before .opened2 .given .1, ne-eqb _ _ (c .if1 .taken)), tt)
@@ -35,9 +26,9 @@ pub open-with-log-spec : {M : Type 1} → statement M
 open-with-log-spec =
     tie.close
     (tie.spec
-    open-requires
-    enum-known-opened
-    enum-known-opened-2
+    (λ c κs. search needs)
+    (λ c. search needs)
+    (λ c. search needs)
     returns
     returns-2
     returns-3

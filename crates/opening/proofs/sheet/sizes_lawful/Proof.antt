@@ -19,9 +19,6 @@ returns-3 : tie.Need-returns-3
 unfolding sizesLawful
 returns-3 c = rw (eq-eqb _ _ (c .before .before .if1 .left), le-leb _ _ (c .before .if2 .left), lt-leb _ _ (c .if3 .taken))
 
-add-if4 : tie.Need-add-if4
-add-if4 c = search needs
-
 returns-4 : tie.Need-returns-4
 unfolding sizesLawful
 returns-4 c = rw (eq-eqb _ _ (c .before .before .before .if1 .left), le-leb _ _ (c .before .before .if2 .left), le-leb _ _ (c .before .if3 .left), ne-eqb _ _ (c .if4 .taken))
@@ -52,7 +49,7 @@ sizes-lawful-spec =
     returns
     returns-2
     returns-3
-    add-if4
+    (λ c. search needs)
     returns-4
     returns-5
     returns-6

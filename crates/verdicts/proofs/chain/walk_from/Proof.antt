@@ -31,22 +31,13 @@ came c =
     let a = s .args in
     gives-all (a .t1 .now) (a .base) (a .n) (a .head) (c .walk .result) (c .walk .last .1 .1 .1 .1 .0) (c .walk .ensures [] (s .pre .1 .1 .1 ∙ sym (marks-none 512)))
 
-cast-word : tie.Need-cast-word
-cast-word c = search needs
-
 returns : tie.Need-returns
 returns c =
     let g = came (c .before) in
     (g .0, (sym (ending-end _ _ _ (c .if1 .taken)) ∙ g .1 .0, g .1 .1))
 
-find-requires : tie.Need-find-requires
-find-requires c κs = search needs
-
 enum-told : tie.Need-enum-told
 enum-told c = search needs
-
-enum-known-p : tie.Need-enum-known-p
-enum-known-p c = search needs
 
 returns-2 : tie.Need-returns-2
 returns-2 c =
@@ -65,10 +56,10 @@ walk-from-spec =
     tie.close
     (tie.spec
     walk-requires
-    cast-word
+    (λ c. search needs)
     returns
-    find-requires
+    (λ c κs. search needs)
     enum-told
-    enum-known-p
+    (λ c. search needs)
     returns-2
     returns-3)

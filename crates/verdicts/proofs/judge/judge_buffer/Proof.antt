@@ -16,9 +16,6 @@ use Rattle.verdicts.proofs.judge.judge_buffer.Tie as tie
 enum-told : tie.Need-enum-told
 enum-told c = search needs
 
-enum-known-own : tie.Need-enum-known-own
-enum-known-own c = search needs
-
 -- what is known of buffer i and of its own record
 record Known (g : Sheet) (i j : ℕ) : Type 0 where
   own : j < g .count
@@ -60,23 +57,11 @@ cast-record-at c = let k = known (c .before .before .before) in omega arith
 add-record-at : tie.Need-add-record-at
 add-record-at c = let k = known (c .before .before .before .before) in omega arith
 
-sub-judge-owned : tie.Need-sub-judge-owned
-sub-judge-owned c = search needs
-
-part-judge-owned-start : tie.Need-part-judge-owned-start
-part-judge-owned-start c = search needs
-
 part-judge-owned-end : tie.Need-part-judge-owned-end
 part-judge-owned-end c = let k = known (c .before .before .before .before) in omega arith
 
 element-copy-out-judge-owned : tie.Need-element-copy-out-judge-owned
 element-copy-out-judge-owned c = let k = known (c .before .before .before .before .before) in omega arith
-
-again-at-requires : tie.Need-again-at-requires
-again-at-requires c κs = search needs
-
-judge-owned-requires : tie.Need-judge-owned-requires
-judge-owned-requires c κs = search needs
 
 returns : tie.Need-returns
 unfolding judged
@@ -93,17 +78,17 @@ judge-buffer-spec =
     tie.close
     (tie.spec
     enum-told
-    enum-known-own
+    (λ c. search needs)
     mul-at
     add-end
     mul-record-at
     cast-record-at
     add-record-at
-    sub-judge-owned
-    part-judge-owned-start
+    (λ c. search needs)
+    (λ c. search needs)
     part-judge-owned-end
     element-copy-out-judge-owned
-    again-at-requires
-    judge-owned-requires
+    (λ c κs. search needs)
+    (λ c κs. search needs)
     returns
     returns-2)

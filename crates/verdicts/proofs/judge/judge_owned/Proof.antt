@@ -5,18 +5,9 @@ use Rattle.verdicts.specs.Judge.{ownedVerdict}
 use Rattle.verdicts.proofs.judge.judge_owned.Statement.{statement}
 use Rattle.verdicts.proofs.judge.judge_owned.Tie as tie
 
-read-tag-requires : tie.Need-read-tag-requires
-read-tag-requires c κs = search needs
-
 returns : tie.Need-returns
 unfolding ownedVerdict
 returns c = rw (← c .before .before .read-tag .ensures, ne-eqb _ _ (c .if1 .taken))
-
-pattern-requires : tie.Need-pattern-requires
-pattern-requires c κs = search needs
-
-judge-chained-requires : tie.Need-judge-chained-requires
-judge-chained-requires c κs = search needs
 
 returns-2 : tie.Need-returns-2
 unfolding ownedVerdict
@@ -25,4 +16,4 @@ returns-2 c = rw (← c .before .before .before .before .read-tag .ensures, eq-e
 pub judge-owned-spec : {M : Type 1} → statement M
 judge-owned-spec =
     tie.close
-    (tie.spec read-tag-requires returns pattern-requires judge-chained-requires returns-2)
+    (tie.spec (λ c κs. search needs) returns (λ c κs. search needs) (λ c κs. search needs) returns-2)

@@ -10,11 +10,8 @@ returns c = rw (eq-eqb _ _ (c .if1 .taken))
 returns-2 : tie.Need-returns-2
 returns-2 c = rw (ne-eqb _ _ (c .before .if1 .left), eq-eqb _ _ (c .if2 .taken))
 
-sub-t4 : tie.Need-sub-t4
-sub-t4 c = search needs
-
 returns-3 : tie.Need-returns-3
 returns-3 c = rw (ne-eqb _ _ (c .before .if1 .left), ne-eqb _ _ (c .if2 .left))
 
 pub said-spec : {M : Type 1} → statement M
-said-spec = tie.close (tie.spec returns returns-2 sub-t4 returns-3)
+said-spec = tie.close (tie.spec returns returns-2 (λ c. search needs) returns-3)

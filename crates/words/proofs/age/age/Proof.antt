@@ -4,12 +4,9 @@ use Rattle.words.specs.Age.{ageOf}
 use Rattle.words.proofs.age.age.Statement.{statement}
 use Rattle.words.proofs.age.age.Tie as tie
 
-wrapping-sub-u32-requires : tie.Need-wrapping-sub-u32-requires
-wrapping-sub-u32-requires c κs = search needs
-
 returns : tie.Need-returns
 unfolding ageOf
 returns c = search needs
 
 pub age-spec : {M : Type 1} → statement M
-age-spec = tie.close (tie.spec wrapping-sub-u32-requires returns)
+age-spec = tie.close (tie.spec (λ c κs. search needs) returns)

@@ -4,14 +4,8 @@ use Rattle.words.proofs.Numbers.{two-bytes}
 use Rattle.words.proofs.word.bytes2.Statement.{statement}
 use Rattle.words.proofs.word.bytes2.Tie as tie
 
-low-requires : tie.Need-low-requires
-low-requires c κs = search needs
-
-low-requires-2 : tie.Need-low-requires-2
-low-requires-2 c κs = search needs
-
 returns : tie.Need-returns
 returns c = two-bytes _ _ _ (c .before .low .ensures) (c .low2 .ensures)
 
 pub bytes2-spec : {M : Type 1} → statement M
-bytes2-spec = tie.close (tie.spec low-requires low-requires-2 returns)
+bytes2-spec = tie.close (tie.spec (λ c κs. search needs) (λ c κs. search needs) returns)

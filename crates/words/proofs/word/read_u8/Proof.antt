@@ -5,11 +5,8 @@ use Rattle.words.proofs.Numbers.{one-read}
 use Rattle.words.proofs.word.read_u8.Statement.{statement}
 use Rattle.words.proofs.word.read_u8.Tie as tie
 
-shared-slice-read-result : tie.Need-shared-slice-read-result
-shared-slice-read-result c = search needs
-
 returns : tie.Need-returns
 returns c = one-read _ _ (omega arith)
 
 pub read-u8-spec : {M : Type 1} → statement M
-read-u8-spec = tie.close (tie.spec shared-slice-read-result returns)
+read-u8-spec = tie.close (tie.spec (λ c. search needs) returns)

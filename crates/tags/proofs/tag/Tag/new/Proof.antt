@@ -7,9 +7,6 @@ use Rattle.tags.proofs.tag.Tag.new.Tie as tie
 enum-told : tie.Need-enum-told
 enum-told c = search needs
 
-enum-told-2 : tie.Need-enum-told-2
-enum-told-2 c = search needs
-
 returns : tie.Need-returns
 unfolding tagOf
 returns c = rw (c .enum-told .given .1)
@@ -19,4 +16,4 @@ unfolding tagOf
 returns-2 c = rw (c .enum-told2 .given .1)
 
 pub new-spec : {M : Type 1} → statement M
-new-spec = tie.close (tie.spec enum-told enum-told-2 returns returns-2)
+new-spec = tie.close (tie.spec enum-told (λ c. search needs) returns returns-2)
