@@ -32,68 +32,14 @@ const HEAP: u32 = 0x70a9add8;
 const RECORDS: u32 = 0x70ae31a0;
 
 // The buffers stand 40 bytes apart.
-const FIRST: u32 = 0x70a9add8;
+const FIRST: u32 = HEAP;
 
-const SECOND: u32 = 0x70a9ae00;
+const SECOND: u32 = HEAP + 40;
 
-const THIRD: u32 = 0x70a9ae28;
+const THIRD: u32 = HEAP + 80;
 
 // The first buffer is granted 20 bytes, so its guard byte stands behind them.
 const GUARD: usize = 20;
-
-// Three rows of the log: record 0 at 150, record 1 at 450, and record 0 at 110.
-fn log() -> [u8; 48] {
-    [
-        0x70,
-        0xae,
-        0x31,
-        0xa0,
-        0,
-        0,
-        0,
-        150,
-        0,
-        0,
-        0,
-        7,
-        0,
-        0,
-        0,
-        1,
-        0x70,
-        0xae,
-        0x32,
-        0,
-        0,
-        0,
-        1,
-        194,
-        0,
-        0,
-        0,
-        8,
-        0,
-        0,
-        0,
-        2,
-        0x70,
-        0xae,
-        0x31,
-        0xa0,
-        0,
-        0,
-        0,
-        110,
-        0,
-        0,
-        0,
-        9,
-        0,
-        0,
-        0,
-        1,
-    ]
-}
 
 // An image that is none yet, and the image that is laid out.
 fn begin(sheet: &mut [u8], heap: &mut [u8], records: &mut [u8]) {
@@ -140,6 +86,13 @@ fn show_freed(sheet: &[u8], heap: &[u8], records: &[u8]) {
     calls::show(sheet, heap, records, SECOND);
     calls::show(sheet, heap, records, THIRD + 4);
     calls::inspect(sheet, heap, records);
+}
+
+// Three rows of the log: record 0 at 150, record 1 at 450, and record 0 at 110.
+fn log() -> [u8; 48] {
+    *b"\x70\xae\x31\xa0\0\0\0\x96\0\0\0\x07\0\0\0\x01\
+      \x70\xae\x32\0\0\0\x01\xc2\0\0\0\x08\0\0\0\x02\
+      \x70\xae\x31\xa0\0\0\0\x6e\0\0\0\x09\0\0\0\x01"
 }
 
 // The latest transactions: at time 600 a row of buffer 0 and the record of buffer 1; at time 120 the other row, since the uptime
