@@ -40,9 +40,9 @@ fn put_allocated(answer: Allocated) {
 }
 
 pub(crate) fn allocate(
-    sheet: &mut [u8],
-    heap: &mut [u8],
-    records: &mut [u8],
+    sheet: &mut [u8; 48],
+    heap: &mut [u8; 120],
+    records: &mut [u8; 288],
     grant: Grant,
     uptime: u32,
     thread: u32,
@@ -52,9 +52,9 @@ pub(crate) fn allocate(
 }
 
 pub(crate) fn free(
-    sheet: &mut [u8],
-    heap: &mut [u8],
-    records: &mut [u8],
+    sheet: &mut [u8; 48],
+    heap: &mut [u8; 120],
+    records: &mut [u8; 288],
     address: u32,
     grant: Grant,
     uptime: u32,
@@ -65,9 +65,9 @@ pub(crate) fn free(
 }
 
 pub(crate) fn store(
-    sheet: &[u8],
-    heap: &mut [u8],
-    records: &[u8],
+    sheet: &[u8; 48],
+    heap: &mut [u8; 120],
+    records: &[u8; 288],
     address: u32,
     offset: u32,
     bytes: &[u8],
@@ -89,7 +89,7 @@ fn put_shown(answer: Shown) {
 }
 
 // Where the client's bytes are, and the bytes.
-pub(crate) fn show(sheet: &[u8], heap: &[u8], records: &[u8], address: u32) {
+pub(crate) fn show(sheet: &[u8; 48], heap: &[u8; 120], records: &[u8; 288], address: u32) {
     put_shown(show::find_client(sheet, heap, records, address));
     lines::put_word(b"show");
     let part = show::show(sheet, heap, records, address);
@@ -115,10 +115,10 @@ fn put_transaction(answer: Transaction) {
 
 // Where the latest transaction of a buffer stands, and its bytes.
 pub(crate) fn latest<'a>(
-    sheet: &[u8],
-    heap: &[u8],
-    records: &'a [u8],
-    log: &'a [u8],
+    sheet: &[u8; 48],
+    heap: &[u8; 120],
+    records: &'a [u8; 288],
+    log: &'a [u8; 48],
     index: u32,
     time: u32,
 ) {
@@ -149,7 +149,7 @@ fn put_finding(f: Finding) {
 }
 
 // What an inspection answers, and its row of findings.
-pub(crate) fn inspect(sheet: &[u8], heap: &[u8], records: &[u8]) {
+pub(crate) fn inspect(sheet: &[u8; 48], heap: &[u8; 120], records: &[u8; 288]) {
     let first = findings::look(sheet, heap, records, 0);
     let answer = first.answer;
     put_inspected(answer);

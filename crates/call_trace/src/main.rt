@@ -42,7 +42,7 @@ const THIRD: u32 = HEAP + 80;
 const GUARD: usize = 20;
 
 // An image that is none yet, and the image that is laid out.
-fn begin(sheet: &mut [u8], heap: &mut [u8], records: &mut [u8]) {
+fn begin(sheet: &mut [u8; 48], heap: &mut [u8; 120], records: &mut [u8; 288]) {
     calls::inspect(sheet, heap, records);
     let answer = layout::lay_out(CACHE, HEAP, RECORDS, 24, 3, sheet, heap, records);
     calls::put_outcome(b"lay_out", answer);
@@ -50,7 +50,7 @@ fn begin(sheet: &mut [u8], heap: &mut [u8], records: &mut [u8]) {
 }
 
 // A grant of 20 bytes, a whole one, and two of sizes that no buffer has.
-fn grant(sheet: &mut [u8], heap: &mut [u8], records: &mut [u8]) {
+fn grant(sheet: &mut [u8; 48], heap: &mut [u8; 120], records: &mut [u8; 288]) {
     calls::allocate(sheet, heap, records, Grant::Sized(20), 100, 7);
     calls::allocate(sheet, heap, records, Grant::Whole, 200, 8);
     calls::allocate(sheet, heap, records, Grant::Sized(25), 250, 9);
@@ -58,7 +58,7 @@ fn grant(sheet: &mut [u8], heap: &mut [u8], records: &mut [u8]) {
 }
 
 // Stores up to a client's last byte and past it, and what the clients have then.
-fn store(sheet: &[u8], heap: &mut [u8], records: &[u8]) {
+fn store(sheet: &[u8; 48], heap: &mut [u8; 120], records: &[u8; 288]) {
     calls::store(sheet, heap, records, FIRST, 0, b"relay");
     calls::store(sheet, heap, records, FIRST, 18, b"end");
     calls::store(sheet, heap, records, SECOND, 20, b"tail");
@@ -68,21 +68,21 @@ fn store(sheet: &[u8], heap: &mut [u8], records: &[u8]) {
 }
 
 // The last buffer is granted in its full size, and there is no room for one more.
-fn fill(sheet: &mut [u8], heap: &mut [u8], records: &mut [u8]) {
+fn fill(sheet: &mut [u8; 48], heap: &mut [u8; 120], records: &mut [u8; 288]) {
     calls::allocate(sheet, heap, records, Grant::Sized(24), 300, 7);
     calls::allocate(sheet, heap, records, Grant::Whole, 400, 9);
     calls::inspect(sheet, heap, records);
 }
 
 // Frees with another grant and with the right one, and once more.
-fn free(sheet: &mut [u8], heap: &mut [u8], records: &mut [u8]) {
+fn free(sheet: &mut [u8; 48], heap: &mut [u8; 120], records: &mut [u8; 288]) {
     calls::free(sheet, heap, records, FIRST, Grant::Whole, 500, 7);
     calls::free(sheet, heap, records, SECOND, Grant::Whole, 500, 8);
     calls::free(sheet, heap, records, SECOND, Grant::Whole, 600, 8);
 }
 
 // What a freed buffer and an address between buffers show.
-fn show_freed(sheet: &[u8], heap: &[u8], records: &[u8]) {
+fn show_freed(sheet: &[u8; 48], heap: &[u8; 120], records: &[u8; 288]) {
     calls::show(sheet, heap, records, SECOND);
     calls::show(sheet, heap, records, THIRD + 4);
     calls::inspect(sheet, heap, records);
@@ -97,7 +97,7 @@ fn log() -> [u8; 48] {
 
 // The latest transactions: at time 600 a row of buffer 0 and the record of buffer 1; at time 120 the other row, since the uptime
 // 150 is then nearly 2^32 old.
-fn ask<'a>(sheet: &[u8], heap: &[u8], records: &'a [u8], log: &'a [u8]) {
+fn ask<'a>(sheet: &[u8; 48], heap: &[u8; 120], records: &'a [u8; 288], log: &'a [u8; 48]) {
     calls::latest(sheet, heap, records, log, 0, 600);
     calls::latest(sheet, heap, records, log, 1, 600);
     calls::latest(sheet, heap, records, log, 0, 120);
@@ -105,7 +105,7 @@ fn ask<'a>(sheet: &[u8], heap: &[u8], records: &'a [u8], log: &'a [u8]) {
 }
 
 // Bytes and words inside the areas, at their ends, and past them.
-fn read(heap: &[u8], records: &[u8]) {
+fn read(heap: &[u8; 120], records: &[u8; 288]) {
     calls::read_byte(heap, HEAP, FIRST + 20);
     calls::read_byte(heap, HEAP, HEAP + 119);
     calls::read_byte(heap, HEAP, HEAP + 120);
@@ -116,33 +116,23 @@ fn read(heap: &[u8], records: &[u8]) {
     calls::read_word(records, RECORDS, RECORDS + 100);
 }
 
-// Writes a zero over a byte.
-fn hurt(heap: &mut [u8], at: usize) {
-    if at < heap.len() {
-        heap[at] = 0;
-    }
+// Writes a zero over the guard byte of the first buffer.
+fn hurt(heap: &mut [u8; 120]) {
+    heap[GUARD] = 0;
 }
 
 // What is found and shown once the guard byte of the first buffer is gone.
-fn show_hurt(sheet: &[u8], heap: &[u8], records: &[u8]) {
+fn show_hurt(sheet: &[u8; 48], heap: &[u8; 120], records: &[u8; 288]) {
     calls::inspect(sheet, heap, records);
     calls::show(sheet, heap, records, FIRST);
 }
 
 // What is refused then, and what is not.
-fn use_hurt(sheet: &mut [u8], heap: &mut [u8], records: &mut [u8]) {
+fn use_hurt(sheet: &mut [u8; 48], heap: &mut [u8; 120], records: &mut [u8; 288]) {
     calls::store(sheet, heap, records, FIRST, 0, b"late");
     calls::free(sheet, heap, records, FIRST, Grant::Sized(20), 700, 7);
     calls::allocate(sheet, heap, records, Grant::Sized(1), 800, 7);
     calls::inspect(sheet, heap, records);
-}
-
-// From an image that is none to one with no room.
-fn fill_up(sheet: &mut [u8], heap: &mut [u8], records: &mut [u8]) {
-    begin(sheet, heap, records);
-    grant(sheet, heap, records);
-    store(sheet, heap, records);
-    fill(sheet, heap, records);
 }
 
 fn main() {
@@ -150,12 +140,15 @@ fn main() {
     let mut heap = [0u8; 120];
     let mut records = [0u8; 288];
     let log = log();
-    fill_up(&mut sheet, &mut heap, &mut records);
+    begin(&mut sheet, &mut heap, &mut records);
+    grant(&mut sheet, &mut heap, &mut records);
+    store(&sheet, &mut heap, &records);
+    fill(&mut sheet, &mut heap, &mut records);
     free(&mut sheet, &mut heap, &mut records);
     show_freed(&sheet, &heap, &records);
     ask(&sheet, &heap, &records, &log);
     read(&heap, &records);
-    hurt(&mut heap, GUARD);
+    hurt(&mut heap);
     show_hurt(&sheet, &heap, &records);
     use_hurt(&mut sheet, &mut heap, &mut records);
 }
