@@ -1,4 +1,4 @@
--- An inspection into a row of four findings that is not as any row that it writes: its answer, and one row afterwards. Assumes nothing.
+-- An inspection into four rows of findings: its answer, and one row afterwards. Assumes nothing.
 use mathlib.Core.List.{List}
 use Prim.Native.Nat.{ℕ}
 use lib.ListN.{getD, replicate}
@@ -7,7 +7,7 @@ use Rattle.image.specs.Inspect.{inspectOf}
 use Rattle.image.specs.declared.inspect.Finding.{Finding}
 use Rattle.call_trace.specs.declared.findings.Seen.{Seen}
 
--- what stands in a row that no inspection has written
+-- what a row holds that no inspection has written: an index that none of four rows is given
 abbrev pub blank : Finding
 blank = record { index = 9; verdict = Whole }
 

@@ -16,7 +16,7 @@ use transactions::latest;
 use transactions::latest::Transaction;
 use window::Word;
 
-// A call that answers nothing but whether it was carried out.
+// The line of a call that answers nothing but whether it was carried out.
 pub(crate) fn put_outcome(call: &[u8], answer: Outcome) {
     lines::put_word(call);
     match answer {
@@ -28,6 +28,7 @@ pub(crate) fn put_outcome(call: &[u8], answer: Outcome) {
     }
 }
 
+// The line of an allocation.
 fn put_allocated(answer: Allocated) {
     lines::put_word(b"allocate");
     match answer {
@@ -39,6 +40,7 @@ fn put_allocated(answer: Allocated) {
     }
 }
 
+// Allocates.
 pub(crate) fn allocate(
     sheet: &mut [u8; 48],
     heap: &mut [u8; 120],
@@ -51,6 +53,7 @@ pub(crate) fn allocate(
     put_allocated(answer);
 }
 
+// Frees.
 pub(crate) fn free(
     sheet: &mut [u8; 48],
     heap: &mut [u8; 120],
@@ -64,6 +67,7 @@ pub(crate) fn free(
     put_outcome(b"free", answer);
 }
 
+// Stores.
 pub(crate) fn store(
     sheet: &[u8; 48],
     heap: &mut [u8; 120],
@@ -76,6 +80,7 @@ pub(crate) fn store(
     put_outcome(b"store", answer);
 }
 
+// The line that says where the client's bytes are.
 fn put_shown(answer: Shown) {
     lines::put_word(b"find_client");
     match answer {
@@ -88,7 +93,7 @@ fn put_shown(answer: Shown) {
     }
 }
 
-// Where the client's bytes are, and the bytes.
+// Shows: where the client's bytes are, and the bytes.
 pub(crate) fn show(sheet: &[u8; 48], heap: &[u8; 120], records: &[u8; 288], address: u32) {
     put_shown(show::find_client(sheet, heap, records, address));
     lines::put_word(b"show");
@@ -96,6 +101,7 @@ pub(crate) fn show(sheet: &[u8; 48], heap: &[u8; 120], records: &[u8; 288], addr
     lines::put_bytes(part);
 }
 
+// The line that says where the latest transaction stands.
 fn put_transaction(answer: Transaction) {
     lines::put_word(b"find_latest");
     match answer {
@@ -128,6 +134,7 @@ pub(crate) fn latest<'a>(
     lines::put_bytes(part);
 }
 
+// The line of an inspection's answer.
 fn put_inspected(answer: Inspected) {
     lines::put_word(b"inspect");
     match answer {
@@ -139,6 +146,7 @@ fn put_inspected(answer: Inspected) {
     }
 }
 
+// The line of a finding.
 fn put_finding(f: Finding) {
     let v = f.verdict;
     lines::put_word(b"finding");
@@ -148,7 +156,7 @@ fn put_finding(f: Finding) {
     lines::end();
 }
 
-// What an inspection answers, and its row of findings.
+// Inspects, and tells what the call answered and each row of its findings.
 pub(crate) fn inspect(sheet: &[u8; 48], heap: &[u8; 120], records: &[u8; 288]) {
     let first = findings::look(sheet, heap, records, 0);
     let answer = first.answer;
@@ -162,6 +170,7 @@ pub(crate) fn inspect(sheet: &[u8; 48], heap: &[u8; 120], records: &[u8; 288]) {
     }
 }
 
+// The line of what stands at an address.
 fn put_read(call: &[u8], found: Word) {
     lines::put_word(call);
     match found {
@@ -171,10 +180,12 @@ fn put_read(call: &[u8], found: Word) {
     lines::end();
 }
 
+// Reads a byte through a window.
 pub(crate) fn read_byte(area: &[u8], base: u32, address: u32) {
     put_read(b"byte", window::read_byte(area, base, address));
 }
 
+// Reads a word through a window.
 pub(crate) fn read_word(area: &[u8], base: u32, address: u32) {
     put_read(b"word", window::read_word(area, base, address));
 }

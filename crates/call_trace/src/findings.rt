@@ -14,7 +14,7 @@ pub struct Seen {
     pub finding: Finding,
 }
 
-// Inspects an image, and answers with row k. No row that an inspection writes is as the rows are before.
+// Inspects an image, and answers with row k. The rows hold an index at first that no row of four can be given.
 pub(crate) fn look(sheet: &[u8], heap: &[u8], records: &[u8], k: usize) -> Seen
     requires { ⌜ k < 4 ⌝ }
     ensures { λ r. ⌜ r ≡ seenOf (now (sheet .entry)) (now (heap .entry)) (now (records .entry)) k ⌝ }
