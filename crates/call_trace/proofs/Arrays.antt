@@ -15,7 +15,6 @@ use base.Fml.{fsep, fat, froom}
 use prog.Wp.{Heap}
 use ghost.Atoms.{Atoms, sem}
 use types.Kit.{Given, ‵, _$_, _∵_, !, qed, move, keep, use1, drop, fsplit, fjoin, fpick, fpack, feqI, done}
-use types.Run.{forget}
 use types.SemTy.{cells}
 use types.Share.{arr-parts}
 use denote.RattleType.{RattleType}
