@@ -1,6 +1,6 @@
 // An address window (A6): a base address and the lent bytes that stand from there on; a word partly outside is no word.
 // The functions over the struct only make it or take it apart; `word_in` and `byte_in` read. A caller that holds the bytes
-// and the base by themselves asks `read_word`.
+// and the base by themselves asks `read_word` or `read_byte`.
 ghost use mathlib.Core.Path.{_≡_};
 ghost use Rattle.window.specs.Window.{wordIn, byteIn};
 use words::word;
@@ -71,4 +71,11 @@ pub fn read_word(area: &[u8], base: u32, address: u32) -> Word
     ensures { λ r. ⌜ r ≡ wordIn (now (area .entry)) base address ⌝ }
 {
     word_at(window_of(base, area), address)
+}
+
+// The byte at an address of such an area, read the same way.
+pub fn read_byte(area: &[u8], base: u32, address: u32) -> Word
+    ensures { λ r. ⌜ r ≡ byteIn (now (area .entry)) base address ⌝ }
+{
+    byte_at(window_of(base, area), address)
 }

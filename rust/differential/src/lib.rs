@@ -9,6 +9,7 @@ mod image;
 pub mod samples;
 mod sequence;
 mod sound;
+pub mod trace;
 
 pub use case::Case;
 pub use image::{put_word, word, Image, Shape};

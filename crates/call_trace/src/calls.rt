@@ -1,0 +1,191 @@
+// The calls, each with its line.
+use crate::findings;
+use crate::lines;
+use allocation::allocate;
+use allocation::allocate::Allocated;
+use area::refusal::Outcome;
+use chunks::chunk::Grant;
+use holding::free;
+use holding::show;
+use holding::show::Shown;
+use holding::store;
+use image::inspect::Finding;
+use image::inspect::Inspected;
+use tags::verdict;
+use transactions::latest;
+use transactions::latest::Transaction;
+use window::Word;
+
+// The line of a call that answers nothing but whether it was carried out.
+pub(crate) fn put_outcome(call: &[u8], answer: Outcome) {
+    lines::put_word(call);
+    match answer {
+        Outcome::Refused(why) => lines::put_refusal(why),
+        Outcome::Done => {
+            lines::put_word(b" done");
+            lines::end();
+        }
+    }
+}
+
+// The line of an allocation.
+fn put_allocated(answer: Allocated) {
+    lines::put_word(b"allocate");
+    match answer {
+        Allocated::Refused(why) => lines::put_refusal(why),
+        Allocated::At(address) => {
+            lines::put_number(address as u64);
+            lines::end();
+        }
+    }
+}
+
+// Allocates.
+pub(crate) fn allocate(
+    sheet: &mut [u8; 48],
+    heap: &mut [u8; 120],
+    records: &mut [u8; 288],
+    grant: Grant,
+    uptime: u32,
+    thread: u32,
+) {
+    let answer = allocate::allocate(sheet, heap, records, grant, uptime, thread);
+    put_allocated(answer);
+}
+
+// Frees.
+pub(crate) fn free(
+    sheet: &mut [u8; 48],
+    heap: &mut [u8; 120],
+    records: &mut [u8; 288],
+    address: u32,
+    grant: Grant,
+    uptime: u32,
+    thread: u32,
+) {
+    let answer = free::free(sheet, heap, records, address, grant, uptime, thread);
+    put_outcome(b"free", answer);
+}
+
+// Stores.
+pub(crate) fn store(
+    sheet: &[u8; 48],
+    heap: &mut [u8; 120],
+    records: &[u8; 288],
+    address: u32,
+    offset: u32,
+    bytes: &[u8],
+) {
+    let answer = store::store(sheet, heap, records, address, offset, bytes);
+    put_outcome(b"store", answer);
+}
+
+// The line that says where the client's bytes are.
+fn put_shown(answer: Shown) {
+    lines::put_word(b"find_client");
+    match answer {
+        Shown::Refused(why) => lines::put_refusal(why),
+        Shown::Client(at, len) => {
+            lines::put_number(at as u64);
+            lines::put_number(len as u64);
+            lines::end();
+        }
+    }
+}
+
+// Shows: where the client's bytes are, and the bytes.
+pub(crate) fn show(sheet: &[u8; 48], heap: &[u8; 120], records: &[u8; 288], address: u32) {
+    put_shown(show::find_client(sheet, heap, records, address));
+    lines::put_word(b"show");
+    let part = show::show(sheet, heap, records, address);
+    lines::put_bytes(part);
+}
+
+// The line that says where the latest transaction stands.
+fn put_transaction(answer: Transaction) {
+    lines::put_word(b"find_latest");
+    match answer {
+        Transaction::Refused(why) => lines::put_refusal(why),
+        Transaction::Row(k) => {
+            lines::put_word(b" row");
+            lines::put_number(k as u64);
+            lines::end();
+        }
+        Transaction::Record(j) => {
+            lines::put_word(b" record");
+            lines::put_number(j as u64);
+            lines::end();
+        }
+    }
+}
+
+// Where the latest transaction of a buffer stands, and its bytes.
+pub(crate) fn latest<'a>(
+    sheet: &[u8; 48],
+    heap: &[u8; 120],
+    records: &'a [u8; 288],
+    log: &'a [u8; 48],
+    index: u32,
+    time: u32,
+) {
+    put_transaction(latest::find_latest(sheet, heap, records, log, index, time));
+    lines::put_word(b"latest");
+    let part = latest::latest(sheet, heap, records, log, index, time);
+    lines::put_bytes(part);
+}
+
+// The line of an inspection's answer.
+fn put_inspected(answer: Inspected) {
+    lines::put_word(b"inspect");
+    match answer {
+        Inspected::Refused(why) => lines::put_refusal(why),
+        Inspected::Count(n) => {
+            lines::put_number(n as u64);
+            lines::end();
+        }
+    }
+}
+
+// The line of a finding.
+fn put_finding(f: Finding) {
+    let v = f.verdict;
+    lines::put_word(b"finding");
+    lines::put_number(f.index as u64);
+    lines::put_number(verdict::number(v) as u64);
+    lines::put_number(verdict::value(v) as u64);
+    lines::end();
+}
+
+// Inspects, and tells what the call answered and each row of its findings.
+pub(crate) fn inspect(sheet: &[u8; 48], heap: &[u8; 120], records: &[u8; 288]) {
+    let first = findings::look(sheet, heap, records, 0);
+    let answer = first.answer;
+    put_inspected(answer);
+    let mut k = 0;
+    while k < 4 {
+        let found = findings::look(sheet, heap, records, k);
+        let f = found.finding;
+        put_finding(f);
+        k += 1;
+    }
+}
+
+// The line of what stands at an address.
+fn put_read(call: &[u8], found: Word) {
+    lines::put_word(call);
+    match found {
+        Word::At(n) => lines::put_number(n as u64),
+        Word::NoWord => lines::put_word(b" none"),
+    }
+    lines::end();
+}
+
+// Reads a byte through a window.
+pub(crate) fn read_byte(area: &[u8], base: u32, address: u32) {
+    put_read(b"byte", window::read_byte(area, base, address));
+}
+
+// Reads a word through a window.
+pub(crate) fn read_word(area: &[u8], base: u32, address: u32) {
+    put_read(b"word", window::read_word(area, base, address));
+}

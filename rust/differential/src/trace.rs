@@ -1,0 +1,238 @@
+//! The calls of the traced program, `crates/call_trace`, made on the reference. Each
+//! answer is a line; the head of that program's `main.rt` says how a line is written.
+
+use reference::{
+    allocate, free, inspect, latest, lay_out, show, store, Finding, Grant, Latest, Refusal, Verdict,
+};
+
+use crate::image::{RECORD_SIZE, ROW_SIZE, SHEET_LENGTH};
+
+const CACHE: u32 = 0x7003_9928;
+const HEAP_BASE: u32 = 0x70a9_add8;
+const RECORD_BASE: u32 = 0x70ae_31a0;
+const SIZE: u32 = 24;
+const COUNT: u32 = 3;
+
+const FIRST: u32 = HEAP_BASE;
+const SECOND: u32 = HEAP_BASE + 40;
+const THIRD: u32 = HEAP_BASE + 80;
+
+/// The guard byte of the first buffer, whose grant is 20 bytes.
+const GUARD: usize = 20;
+
+/// The log's rows: record address, uptime, thread, kind.
+const LOG: [[u32; 4]; 3] = [
+    [RECORD_BASE, 150, 7, 1],
+    [RECORD_BASE + 96, 450, 8, 2],
+    [RECORD_BASE, 110, 9, 1],
+];
+
+/// What stands in a lent row of findings before an inspection.
+const BLANK: Finding = Finding {
+    index: 9,
+    verdict: Verdict::Whole,
+};
+
+/// An image, its log, and the lines of the calls made on it.
+struct Trace {
+    sheet: [u8; SHEET_LENGTH],
+    heap: [u8; 120],
+    records: [u8; 3 * RECORD_SIZE],
+    log: Vec<u8>,
+    lines: String,
+}
+
+/// All lines.
+pub fn trace() -> String {
+    let mut trace = Trace {
+        sheet: [0; SHEET_LENGTH],
+        heap: [0; 120],
+        records: [0; 3 * RECORD_SIZE],
+        log: LOG
+            .as_flattened()
+            .iter()
+            .flat_map(|word| word.to_be_bytes())
+            .collect(),
+        lines: String::new(),
+    };
+    trace.begin();
+    trace.store_and_show();
+    trace.fill_and_free();
+    trace.ask();
+    trace.read();
+    trace.hurt();
+    trace.lines
+}
+
+impl Trace {
+    fn begin(&mut self) {
+        self.inspect();
+        self.lay_out();
+        self.inspect();
+        self.allocate(Grant::Sized(20), 100, 7);
+        self.allocate(Grant::Whole, 200, 8);
+        self.allocate(Grant::Sized(25), 250, 9);
+        self.allocate(Grant::Sized(0), 250, 9);
+    }
+
+    fn store_and_show(&mut self) {
+        self.store(FIRST, 0, b"relay");
+        self.store(FIRST, 18, b"end");
+        self.store(SECOND, 20, b"tail");
+        self.store(SECOND, 24, b"");
+        self.show(FIRST);
+        self.show(SECOND);
+    }
+
+    fn fill_and_free(&mut self) {
+        self.allocate(Grant::Sized(24), 300, 7);
+        self.allocate(Grant::Whole, 400, 9);
+        self.inspect();
+        self.free(FIRST, Grant::Whole, 500, 7);
+        self.free(SECOND, Grant::Whole, 500, 8);
+        self.free(SECOND, Grant::Whole, 600, 8);
+        self.show(SECOND);
+        self.show(THIRD + 4);
+        self.inspect();
+    }
+
+    fn ask(&mut self) {
+        self.latest(0, 600);
+        self.latest(1, 600);
+        self.latest(0, 120);
+        self.latest(3, 600);
+    }
+
+    fn read(&mut self) {
+        self.read_heap("byte", FIRST + 20, 1);
+        self.read_heap("byte", HEAP_BASE + 119, 1);
+        self.read_heap("byte", HEAP_BASE + 120, 1);
+        self.read_heap("byte", HEAP_BASE - 1, 1);
+        self.read_heap("word", THIRD + 24, 4);
+        self.read_heap("word", HEAP_BASE + 116, 4);
+        self.read_heap("word", HEAP_BASE + 117, 4);
+        let found = read(&self.records, RECORD_BASE, RECORD_BASE + 100, 4);
+        self.line("word", &found);
+    }
+
+    fn hurt(&mut self) {
+        self.heap[GUARD] = 0;
+        self.inspect();
+        self.show(FIRST);
+        self.store(FIRST, 0, b"late");
+        self.free(FIRST, Grant::Sized(20), 700, 7);
+        self.allocate(Grant::Sized(1), 800, 7);
+        self.inspect();
+    }
+
+    fn line(&mut self, call: &str, answer: &str) {
+        self.lines += &format!("{call}{answer}\n");
+    }
+
+    fn lay_out(&mut self) {
+        let answer = lay_out(
+            CACHE,
+            HEAP_BASE,
+            RECORD_BASE,
+            SIZE,
+            COUNT,
+            &mut self.sheet,
+            &mut self.heap,
+            &mut self.records,
+        );
+        self.line("lay_out", &outcome(answer));
+    }
+
+    fn allocate(&mut self, grant: Grant, uptime: u32, thread: u32) {
+        let (sheet, heap, records) = (&mut self.sheet, &mut self.heap, &mut self.records);
+        let answer = allocate(sheet, heap, records, grant, uptime, thread);
+        self.line("allocate", &told(answer, |address| format!(" {address}")));
+    }
+
+    fn free(&mut self, address: u32, grant: Grant, uptime: u32, thread: u32) {
+        let (sheet, heap, records) = (&mut self.sheet, &mut self.heap, &mut self.records);
+        let answer = free(sheet, heap, records, address, grant, uptime, thread);
+        self.line("free", &outcome(answer));
+    }
+
+    fn store(&mut self, address: u32, offset: u32, bytes: &[u8]) {
+        let (sheet, heap, records) = (&self.sheet, &mut self.heap, &self.records);
+        let answer = store(sheet, heap, records, address, offset, bytes);
+        self.line("store", &outcome(answer));
+    }
+
+    /// The client's bytes start where the buffer does.
+    fn show(&mut self, address: u32) {
+        let answer = show(&self.sheet, &self.heap, &self.records, address);
+        let part = numbers(answer.unwrap_or_default());
+        let place = told(answer, |part| {
+            format!(" {} {}", address - HEAP_BASE, part.len())
+        });
+        self.line("find_client", &place);
+        self.line("show", &part);
+    }
+
+    fn latest(&mut self, index: u32, now: u32) {
+        let (sheet, heap, records) = (&self.sheet, &self.heap, &self.records);
+        let answer = latest(sheet, heap, records, &self.log, index, now);
+        let part = match answer {
+            Ok(Latest::Row(row)) => &self.log[row * ROW_SIZE..][..ROW_SIZE],
+            Ok(Latest::Record(record)) => &self.records[record * RECORD_SIZE..][..RECORD_SIZE],
+            Err(_) => &[],
+        };
+        let part = numbers(part);
+        let place = told(answer, |latest| match latest {
+            Latest::Row(row) => format!(" row {row}"),
+            Latest::Record(record) => format!(" record {record}"),
+        });
+        self.line("find_latest", &place);
+        self.line("latest", &part);
+    }
+
+    fn inspect(&mut self) {
+        let mut rows = [BLANK; 4];
+        let answer = inspect(&self.sheet, &self.heap, &self.records, &mut rows);
+        self.line("inspect", &told(answer, |count| format!(" {count}")));
+        for Finding { index, verdict } in rows {
+            let (number, value) = (verdict.number(), verdict.value());
+            self.line("finding", &format!(" {index} {number} {value}"));
+        }
+    }
+
+    fn read_heap(&mut self, call: &str, address: u32, width: usize) {
+        let found = read(&self.heap, HEAP_BASE, address, width);
+        self.line(call, &found);
+    }
+}
+
+/// "A base address together with the lent bytes it stands for. A word partly outside
+/// it is no word."
+fn read(area: &[u8], base: u32, address: u32, width: usize) -> String {
+    let start = address.checked_sub(base).map(|start| start as usize);
+    let bytes = start.and_then(|start| area.get(start..start + width));
+    match bytes {
+        None => String::from(" none"),
+        Some(bytes) => {
+            let number = bytes
+                .iter()
+                .fold(0, |high, low| high * 256 + u32::from(*low));
+            format!(" {number}")
+        }
+    }
+}
+
+/// What an accepted call says, or "its number and detail".
+fn told<T>(answer: Result<T, Refusal>, accepted: impl FnOnce(T) -> String) -> String {
+    match answer {
+        Ok(value) => accepted(value),
+        Err(Refusal { number, detail }) => format!(" refused {number} {detail}"),
+    }
+}
+
+fn outcome(answer: Result<(), Refusal>) -> String {
+    told(answer, |()| String::from(" done"))
+}
+
+fn numbers(bytes: &[u8]) -> String {
+    bytes.iter().map(|byte| format!(" {byte}")).collect()
+}
