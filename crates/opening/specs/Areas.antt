@@ -1,7 +1,8 @@
 -- The three areas that a call is lent, and what a call leaves in them. Assumes nothing.
 use mathlib.Core.Path.{_≡_}
 use mathlib.Core.List.{List}
-use Prim.Native.Nat.{ℕ, _*_, _<_}
+use Prim.Native.Nat.{ℕ, _+_, _*_, _<_}
+use denote.Ref.{RefT}
 use lib.Seq.{sets}
 use Rattle.words.specs.Word.{bytesOf, part}
 use Rattle.area.specs.Place.{placeAddress}
@@ -35,6 +36,10 @@ chunkAt g heap i = part heap (i * g .chunk) (g .chunk)
 
 abbrev pub recordAddress : Sheet → ℕ → ℕ
 recordAddress g j = placeAddress (g .records) recordSize j
+
+-- "as a part of the area it lies in": a part that starts `at` bytes behind the area's own start. A reference points to an allocation and an offset in it
+abbrev pub PartAt : RefT (List ℕ) → ℕ → RefT (List ℕ) → Type 0
+PartAt area at p = (p .ptr .0 ≡ area .ptr .0) × (p .ptr .1 ≡ area .ptr .1 + at)
 
 -- where the chain head stands in the sheet
 abbrev pub headAt : ℕ

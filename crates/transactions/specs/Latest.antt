@@ -4,6 +4,7 @@ use mathlib.Core.Path.{_≡_}
 use mathlib.Core.Bool.{Bool, true, _&&_}
 use mathlib.Core.List.{List, []}
 use Prim.Native.Nat.{ℕ, zero, suc, _+_, _*_, _/_, _≤_, _<_}
+use denote.Ref.{RefT}
 use lib.Dec.{eqb, leb, ltb}
 use lib.ListN.{length}
 use Rattle.words.specs.Word.{part, numberAt}
@@ -13,7 +14,7 @@ use Rattle.tags.specs.declared.verdict.Verdict.the-variants.{NotOneRecord}
 use Rattle.area.specs.Record.{recordSize, recordWord, stampHighAt, stampLowAt}
 use Rattle.opening.specs.Sheet.{openedWithLog, onOpened}
 use Rattle.verdicts.specs.Pairing.{ownOf, byOwn}
-use Rattle.opening.specs.Areas.{bufferAddress, recordAddress}
+use Rattle.opening.specs.Areas.{bufferAddress, recordAddress, PartAt}
 use Rattle.opening.specs.declared.sheet.Sheet.{Sheet}
 use Rattle.area.specs.declared.place.Place.{Place}
 use Rattle.area.specs.declared.place.Place.the-variants as place
@@ -75,6 +76,12 @@ abbrev pub latestPart : List ℕ → List ℕ → Transaction → List ℕ
 latestPart records log (Row k) = part log (k * rowSize) rowSize
 latestPart records log (Record j) = part records (j * recordSize) recordSize
 latestPart records log (Refused why) = []
+
+-- and where it stands, so that it is that row or record and no other with the same bytes; where a refusal's empty part stands is left free
+abbrev pub LatestPlace : RefT (List ℕ) → RefT (List ℕ) → Transaction → RefT (List ℕ) → Type 0
+LatestPlace records log (Row k) p = PartAt log (k * rowSize) p
+LatestPlace records log (Record j) p = PartAt records (j * recordSize) p
+LatestPlace records log (Refused why) p = Unit {0}
 
 -- ---- the rule in plain words, which the definitions above meet
 
