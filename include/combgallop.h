@@ -52,6 +52,17 @@ static inline uint32_t cg_value(uint64_t answer)
 #define CG_RECORD_MARK 0x80000000u
 
 /*
+ * Writes how long the areas of an image are, for a caller that has only its sheet yet:
+ * the heap's length at lengths[0] and the record area's at lengths[1]. Numbers past
+ * those stay as they are.
+ *
+ * Value: 0.
+ * Refusals: 1, 2; 11 when lengths_length is below 2.
+ */
+uint64_t cg_area_lengths(const uint8_t *sheet, size_t sheet_length,
+                         uint32_t *lengths, size_t lengths_length);
+
+/*
  * Judges every buffer. Fills three numbers for each, in the order of the buffers: its
  * index, its verdict's number, and the verdict's size (verdict 2) or offset (25, 26
  * and 28), else 0. Numbers past those stay as they are.
@@ -63,6 +74,23 @@ uint64_t cg_inspect(const uint8_t *sheet, size_t sheet_length,
                     const uint8_t *heap, size_t heap_length,
                     const uint8_t *records, size_t records_length,
                     uint32_t *rows, size_t rows_length);
+
+/*
+ * What the report says, as numbers, of an image with a log. Fills three numbers for each
+ * buffer, as cg_inspect does, and three for the chain: how many records it met; how it
+ * ends, 0 at its end, 1 broken, 2 at a record already met; and the index of that record,
+ * else 0. Numbers past those stay as they are.
+ *
+ * Value: the count of buffers n.
+ * Refusals: 1, 2, 3; 11 when rows_length is below three times n, or chain_length
+ * below 3.
+ */
+uint64_t cg_survey(const uint8_t *sheet, size_t sheet_length,
+                   const uint8_t *heap, size_t heap_length,
+                   const uint8_t *records, size_t records_length,
+                   const uint8_t *log, size_t log_length,
+                   uint32_t *rows, size_t rows_length,
+                   uint32_t *chain, size_t chain_length);
 
 /*
  * Finds the latest transaction of the buffer with an index, at the uptime `now`: the
