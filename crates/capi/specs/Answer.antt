@@ -18,46 +18,46 @@ use Rattle.holding.specs.declared.show.Shown.the-variants as shown
 use Rattle.report.specs.declared.answer.Reported.{Reported}
 use Rattle.report.specs.declared.answer.Reported.the-variants as reported
 
--- a value, and no refusal
+-- F1 (a value, and no refusal)
 abbrev pub acceptedWord : ℕ → ℕ
 acceptedWord value = value * 4294967296
 
--- a refusal's number and detail, and no value
+-- F1, E2 (a refusal's number and detail, and no value)
 unfoldable pub refusedWord : Refusal → ℕ
 refusedWord why = refusalNumber why + refusalDetail why * 256
 
--- the number of buffers inspected
+-- F2 (the number of buffers inspected)
 abbrev pub inspectWord : Inspected → ℕ
 inspectWord (inspected.Count n) = acceptedWord n
 inspectWord (inspected.Refused why) = refusedWord why
 
--- the log row's number, or 0x80000000 plus the record's index
+-- F2 (the log row's number, or 0x80000000 plus the record's index)
 abbrev pub latestWord : Transaction → ℕ
 latestWord (transaction.Row k) = acceptedWord k
 latestWord (transaction.Record j) = acceptedWord (0x80000000 + j)
 latestWord (transaction.Refused why) = refusedWord why
 
--- the length filled
+-- F2 (the length filled)
 abbrev pub reportWord : Reported → ℕ
 reportWord (reported.Length n) = acceptedWord n
 reportWord (reported.Refused why) = refusedWord why
 
--- nothing but that a call was carried out: the value is 0
+-- F2 (nothing but that a call was carried out: the value is 0)
 abbrev pub outcomeWord : Outcome → ℕ
 outcomeWord outcome.Done = acceptedWord 0
 outcomeWord (outcome.Refused why) = refusedWord why
 
--- the buffer's address
+-- F2 (the buffer's address)
 abbrev pub allocateWord : Allocated → ℕ
 allocateWord (allocated.At address) = acceptedWord address
 allocateWord (allocated.Refused why) = refusedWord why
 
--- the number of the client's bytes
+-- F2 (the number of the client's bytes)
 abbrev pub showWord : Shown → ℕ
 showWord (shown.Client at len) = acceptedWord len
 showWord (shown.Refused why) = refusedWord why
 
--- "When `whole` is true, `size` is not read."
+-- F3 (where `whole` is true, `size` is not read)
 abbrev pub grantOf : Bool → ℕ → Grant
 grantOf true size = Whole
 grantOf false size = Sized size

@@ -1,10 +1,12 @@
 // The one number that every function returns.
 ghost use mathlib.Core.Path.{_≡_};
-ghost use Rattle.capi.specs.Answer.{acceptedWord, refusedWord, outcomeWord, allocateWord};
+ghost use Rattle.image.specs.Inspect.{InspectedIf};
+ghost use Rattle.capi.specs.Answer.{acceptedWord, refusedWord, outcomeWord, allocateWord, inspectWord};
 use allocation::allocate::Allocated;
 use area::refusal;
 use area::refusal::Outcome;
 use area::refusal::Refusal;
+use image::inspect::Inspected;
 
 // What an accepted call returns.
 pub(crate) fn accepted(value: u32) -> u64
@@ -39,5 +41,16 @@ pub(crate) fn allocated(a: Allocated) -> u64
     match a {
         Allocated::Refused(why) => refused(why),
         Allocated::At(address) => accepted(address),
+    }
+}
+
+// What an inspection returns: the value is the number of buffers.
+pub(crate) fn inspected(i: Inspected) -> u64
+    requires { ⌜ InspectedIf i ⌝ }
+    ensures { λ r. ⌜ r ≡ inspectWord i ⌝ }
+{
+    match i {
+        Inspected::Refused(why) => refused(why),
+        Inspected::Count(n) => accepted(n as u32),
     }
 }

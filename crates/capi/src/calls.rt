@@ -5,7 +5,8 @@ ghost use Rattle.layout.specs.Layout.{layOutOf};
 ghost use Rattle.allocation.specs.Allocate.{allocateOf};
 ghost use Rattle.holding.specs.Free.{freeOf};
 ghost use Rattle.holding.specs.Store.{storeOf};
-ghost use Rattle.holding.specs.Show.{shownOf};
+ghost use Rattle.opening.specs.Sheet.{sheetOf};
+ghost use Rattle.holding.specs.Show.{shownOf, StartsAt};
 ghost use Rattle.capi.specs.Answer.{grantOf, outcomeWord, allocateWord, showWord};
 use crate::answer;
 use allocation::allocate;
@@ -125,11 +126,14 @@ pub extern "C" fn cg_store(
     answer::outcome(store::store(sheet, heap, records, address, offset, bytes))
 }
 
-// Counts the client's bytes of the buffer at an address. They start at the buffer; the value is their number.
+// Counts the client's bytes of the buffer at an address. The value is their number. Where they start follows from the address: in
+// the heap at the address less the heap's base.
 #[no_mangle]
 pub extern "C" fn cg_show(sheet: &[u8], heap: &[u8], records: &[u8], address: u32) -> u64
-    ensures { λ r. ⌜ r
+    ensures answer { λ r. ⌜ r
         ≡ showWord (shownOf (areas (now (sheet .entry)) (now (heap .entry)) (now (records .entry))) address) ⌝ }
+    ensures starts { λ _. ⌜ StartsAt (sheetOf (now (sheet .entry)) .heap) address
+        (shownOf (areas (now (sheet .entry)) (now (heap .entry)) (now (records .entry))) address) ⌝ }
 {
     let c = show::find_client(sheet, heap, records, address);
     match c {

@@ -2,17 +2,43 @@
 ghost use mathlib.Core.Path.{_≡_};
 ghost use lib.ListN.{length};
 ghost use Rattle.image.specs.Inspect.{tabulateOf};
+ghost use Rattle.image.specs.Numbers.{surveyNumbersOf};
 ghost use Rattle.transactions.specs.Latest.{latestOf};
 ghost use Rattle.report.specs.Answer.{reportOf};
-ghost use Rattle.capi.specs.Answer.{inspectWord, latestWord, reportWord};
+ghost use Rattle.capi.specs.Answer.{inspectWord, latestWord, reportWord, outcomeWord};
+ghost use Rattle.capi.specs.Reader.{areaLengthsOf};
 use crate::answer::accepted;
+use crate::answer::inspected;
 use crate::answer::refused;
+use area::refusal::Refusal;
 use image::inspect;
-use image::inspect::Inspected;
+use image::numbers;
+use opening::sheet;
+use opening::sheet::Lengths;
 use report::answer;
 use report::answer::Reported;
 use transactions::latest;
 use transactions::latest::Transaction;
+
+// Writes the heap's length and the record area's, as the sheet has them. The value is 0.
+#[no_mangle]
+pub extern "C" fn cg_area_lengths(sheet: &[u8], lengths: &mut [u32]) -> u64
+    ensures answer { λ r. ⌜ r ≡ outcomeWord (areaLengthsOf (now (sheet .entry)) (now (lengths .entry)) .answer) ⌝ }
+    ensures lengths { λ _. ⌜ now (lengths .exit) ≡ areaLengthsOf (now (sheet .entry)) (now (lengths .entry)) .rows ⌝ }
+{
+    let asked = sheet::area_lengths(sheet);
+    match asked {
+        Lengths::Refused(why) => refused(why),
+        Lengths::Areas(heap, records) => {
+            if lengths.len() < 2 {
+                return refused(Refusal::ShortOutput);
+            }
+            lengths[0] = heap as u32;
+            lengths[1] = records as u32;
+            accepted(0)
+        }
+    }
+}
 
 // Fills three numbers for each buffer: index, verdict number, size or offset. The value is the number of buffers.
 #[no_mangle]
@@ -22,11 +48,28 @@ pub extern "C" fn cg_inspect(sheet: &[u8], heap: &[u8], records: &[u8], rows: &m
     ensures rows { λ _. ⌜ now (rows .exit)
         ≡ tabulateOf (now (sheet .entry)) (now (heap .entry)) (now (records .entry)) (now (rows .entry)) .rows ⌝ }
 {
-    let r = inspect::tabulate(sheet, heap, records, rows);
-    match r {
-        Inspected::Refused(why) => refused(why),
-        Inspected::Count(n) => accepted(n as u32),
-    }
+    inspected(inspect::tabulate(sheet, heap, records, rows))
+}
+
+// Fills the same numbers of an image with a log, and three of the chain: records met, ending, the record that it came back to.
+// The value is the number of buffers.
+#[no_mangle]
+pub extern "C" fn cg_survey(
+    sheet: &[u8],
+    heap: &[u8],
+    records: &[u8],
+    log: &[u8],
+    rows: &mut [u32],
+    chain: &mut [u32],
+) -> u64
+    ensures answer { λ r. ⌜ r
+        ≡ inspectWord (surveyNumbersOf (now (sheet .entry)) (now (heap .entry)) (now (records .entry)) (length (now (log .entry))) (now (rows .entry)) (now (chain .entry)) .answer) ⌝ }
+    ensures rows { λ _. ⌜ now (rows .exit)
+        ≡ surveyNumbersOf (now (sheet .entry)) (now (heap .entry)) (now (records .entry)) (length (now (log .entry))) (now (rows .entry)) (now (chain .entry)) .rows ⌝ }
+    ensures chain { λ _. ⌜ now (chain .exit)
+        ≡ surveyNumbersOf (now (sheet .entry)) (now (heap .entry)) (now (records .entry)) (length (now (log .entry))) (now (rows .entry)) (now (chain .entry)) .chain ⌝ }
+{
+    inspected(numbers::survey_numbers(sheet, heap, records, log, rows, chain))
 }
 
 // Finds the latest transaction of a buffer. The value is the log row's number, or 0x80000000 plus the record's index.

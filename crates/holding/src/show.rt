@@ -2,7 +2,8 @@
 ghost use mathlib.Core.Path.{_≡_};
 ghost use lib.ListN.{length};
 ghost use Rattle.opening.specs.Areas.{areas};
-ghost use Rattle.holding.specs.Show.{shownOf, ShownIf, shownPart};
+ghost use Rattle.opening.specs.Sheet.{sheetOf};
+ghost use Rattle.holding.specs.Show.{shownOf, ShownIf, shownPart, ShownPlace, StartsAt};
 use crate::holding;
 use crate::holding::Held;
 use area::refusal::Refusal;
@@ -15,8 +16,9 @@ pub enum Shown {
 
 // Finds the client's bytes of the buffer at an address.
 pub fn find_client(sheet: &[u8], heap: &[u8], records: &[u8], address: u32) -> Shown
-    ensures { λ r. ⌜ r ≡ shownOf (areas (now (sheet .entry)) (now (heap .entry)) (now (records .entry))) address ⌝ }
-    ensures { λ r. ⌜ ShownIf (length (now (heap .entry))) r ⌝ }
+    ensures answer { λ r. ⌜ r ≡ shownOf (areas (now (sheet .entry)) (now (heap .entry)) (now (records .entry))) address ⌝ }
+    ensures inside { λ r. ⌜ ShownIf (length (now (heap .entry))) r ⌝ }
+    ensures starts { λ r. ⌜ StartsAt (sheetOf (now (sheet .entry)) .heap) address r ⌝ }
 {
     let h = holding::hold(sheet, heap, records, address);
     match h {
@@ -31,8 +33,9 @@ pub fn find_client(sheet: &[u8], heap: &[u8], records: &[u8], address: u32) -> S
 
 // The client's bytes themselves; empty where they are refused.
 pub fn show<'a>(sheet: &[u8], heap: &'a [u8], records: &[u8], address: u32) -> &'a [u8]
-    ensures { λ r. ⌜ now r
+    ensures bytes { λ r. ⌜ now r
         ≡ shownPart (now (heap .entry)) (shownOf (areas (now (sheet .entry)) (now (heap .entry)) (now (records .entry))) address) ⌝ }
+    ensures place { λ r. ⌜ ShownPlace (heap .entry) (shownOf (areas (now (sheet .entry)) (now (heap .entry)) (now (records .entry))) address) r ⌝ }
 {
     let c = find_client(sheet, heap, records, address);
     match c {

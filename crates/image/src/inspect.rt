@@ -206,7 +206,7 @@ fn judge_rows<'a>(
 }
 
 // Judges every buffer of an open image, writes the numbers, and answers what the judging started from.
-fn survey_open(heap: &[u8], records: &[u8], g: Sheet, rows: &mut [u32]) -> Start
+pub(crate) fn survey_open(heap: &[u8], records: &[u8], g: Sheet, rows: &mut [u32]) -> Start
     requires { ⌜ Open (length (now heap)) (length (now records)) g ⌝ }
     requires { ⌜ g .count * 3 ≤ length (now rows) ⌝ }
     ensures rows { λ _. ⌜ now (rows .exit) ≡ sets (now (rows .entry)) 0 (tableOf g (now (heap .entry)) (now (records .entry))) ⌝ }

@@ -5,3 +5,6 @@
 
 // The findings of all buffers.
 pub mod inspect;
+
+// A survey as numbers.
+pub mod numbers;

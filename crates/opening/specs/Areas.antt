@@ -1,7 +1,7 @@
 -- The three areas that a call is lent, and what a call leaves in them. Assumes nothing.
 use mathlib.Core.Path.{_≡_}
 use mathlib.Core.List.{List}
-use Prim.Native.Nat.{ℕ, _*_, _<_}
+use Prim.Native.Nat.{ℕ, _+_, _*_, _<_}
 use lib.ListN.{length}
 use lib.Seq.{sets}
 use denote.Ref.{RefT, now}
@@ -70,6 +70,10 @@ chunkAt g heap i = part heap (i * g .chunk) (g .chunk)
 
 abbrev pub recordAddress : Sheet → ℕ → ℕ
 recordAddress g j = placeAddress (g .records) recordSize j
+
+-- L4, K10 (a part of the area it lies in): a part that starts `at` bytes behind the area's own start; a reference is an allocation and an offset in it
+abbrev pub PartAt : RefT (List ℕ) → ℕ → RefT (List ℕ) → Type 0
+PartAt area at p = (p .ptr .0 ≡ area .ptr .0) × (p .ptr .1 ≡ area .ptr .1 + at)
 
 -- S2 (where the chain head stands in the sheet)
 abbrev pub headAt : ℕ

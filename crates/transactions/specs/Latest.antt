@@ -1,9 +1,9 @@
--- "Latest transaction, for a buffer index, hands back either the log row or the record, as a part of the area it lies in: the smallest age among rows naming
--- its record and the record itself. On a tie a row wins over the record and a later row over an earlier." Assumes nothing.
+-- The latest transaction. Assumes nothing.
 use mathlib.Core.Path.{_≡_}
 use mathlib.Core.Bool.{Bool, true, _&&_}
 use mathlib.Core.List.{List, []}
 use Prim.Native.Nat.{ℕ, zero, suc, _+_, _*_, _/_, _≤_, _<_}
+use denote.Ref.{RefT}
 use lib.Dec.{eqb, leb, ltb}
 use lib.ListN.{length}
 use Rattle.words.specs.Word.{part, numberAt}
@@ -13,7 +13,7 @@ use Rattle.tags.specs.declared.verdict.Verdict.the-variants.{NotOneRecord}
 use Rattle.area.specs.Record.{recordSize, recordWord, stampHighAt, stampLowAt}
 use Rattle.opening.specs.Sheet.{openedWithLog, onOpened}
 use Rattle.verdicts.specs.Pairing.{ownOf, byOwn}
-use Rattle.opening.specs.Areas.{bufferAddress, recordAddress}
+use Rattle.opening.specs.Areas.{bufferAddress, recordAddress, PartAt}
 use Rattle.opening.specs.declared.sheet.Sheet.{Sheet}
 use Rattle.area.specs.declared.place.Place.{Place}
 use Rattle.area.specs.declared.place.Place.the-variants as place
@@ -22,59 +22,65 @@ use Rattle.transactions.specs.declared.latest.Best.{Best}
 use Rattle.transactions.specs.declared.latest.Transaction.{Transaction}
 use Rattle.transactions.specs.declared.latest.Transaction.the-variants.{Row, Record, Refused}
 
--- "The log is 0 to 1,024 rows of 16 bytes: record address, uptime, thread, kind"
+-- A4, A5 (a row of the log)
 abbrev pub rowSize : ℕ
 rowSize = 16
 
--- row k of the log names the record at the address a
+-- A5, L1 (the row names the record): row k of the log, the record at the address a
 abbrev pub rowNames : List ℕ → ℕ → ℕ → Bool
 rowNames log a k = eqb (numberAt 4 log (k * rowSize)) a
 
--- the age of row k
+-- L2 (the age of row k)
 abbrev pub rowAge : List ℕ → ℕ → ℕ → ℕ
 rowAge log time k = ageOf 32 time (numberAt 4 log (k * rowSize + 4))
 
--- row k takes the place of what was latest before it if it names the record and is not older
+-- L3 (of equal ages, the later row): row k takes the place of what was latest before it if it names the record and is not older
 unfoldable pub considered : List ℕ → ℕ → ℕ → ℕ → Best → Best
 considered log a time k b =
     pick (rowNames log a k && leb (rowAge log time k) (b .age)) (record { row = place.At k; age = rowAge log time k }) b
 
--- the latest of what was latest before and the first n rows, one after the other
+-- L3 (the smallest age): the latest of what was latest before and the first n rows, one after the other
 unfoldable pub latestRow : List ℕ → ℕ → ℕ → Best → ℕ → Best
 latestRow log a time b zero = b
 latestRow log a time b (suc k) = considered log a time k (latestRow log a time b k)
 
--- before any row it is the record, by the low half of its stamp
+-- L2, L3 (of equal ages, a row before the record): before any row it is the record, by the low half of its stamp
 abbrev pub firstBest : ℕ → ℕ → Best
 firstBest stamp time = record { row = place.Nowhere; age = ageOf 32 time stamp }
 
--- a row, or else record j
+-- L4 (a row, or else record j)
 abbrev pub rowOrRecord : Place → ℕ → Transaction
 rowOrRecord (place.At k) j = Row k
 rowOrRecord place.Nowhere j = Record j
 
--- "12: record stamp with a non-zero high half", for the buffer whose own record is j
+-- X12 (the high half of the stamp is not 0), for the buffer whose own record is j
 unfoldable pub ownedLatest : Sheet → List ℕ → List ℕ → ℕ → ℕ → Transaction
 ownedLatest g records log time j =
     pick (eqb (recordWord records j stampHighAt) 0)
     (rowOrRecord (latestRow log (recordAddress g j) time (firstBest (recordWord records j stampLowAt) time) (length log / rowSize) .row) j)
     (Refused WideStamp)
 
--- "4: .. index not below n", "7 with 20"
+-- X4 (index not below n), E7 (X7 with 20)
 unfoldable pub indexedLatest : Sheet → List ℕ → List ℕ → ℕ → ℕ → Transaction
 indexedLatest g records log index time =
     pick (ltb index (g .count)) (byOwn (ownOf records (g .count) (bufferAddress g index)) (ownedLatest g records log time) (Refused (Damage NotOneRecord))) (Refused NoSuchBuffer)
 
--- "Latest: 4, 7 with 20, 12"
+-- E7 (the order of latest), after E3
 unfoldable pub latestOf : List ℕ → List ℕ → List ℕ → List ℕ → ℕ → ℕ → Transaction
 latestOf s heap records log index time =
     onOpened (openedWithLog s (length heap) (length records) (length log)) (λ g. indexedLatest g records log index time) Refused
 
--- the part handed back; "no part (a view is empty)" of a refusal
+-- L4 (the part handed back), E1 (of a refusal, none)
 abbrev pub latestPart : List ℕ → List ℕ → Transaction → List ℕ
 latestPart records log (Row k) = part log (k * rowSize) rowSize
 latestPart records log (Record j) = part records (j * recordSize) recordSize
 latestPart records log (Refused why) = []
+
+-- and where it stands, so that it is that row or record and no other with the same bytes; where a refusal's empty part stands is left free
+abbrev pub LatestPlace : RefT (List ℕ) → RefT (List ℕ) → Transaction → RefT (List ℕ) → Type 0
+LatestPlace records log (Row k) p = PartAt log (k * rowSize) p
+LatestPlace records log (Record j) p = PartAt records (j * recordSize) p
+LatestPlace records log (Refused why) p = Unit {0}
 
 -- ---- the rule in plain words, which the definitions above meet
 
@@ -85,7 +91,7 @@ ChosenAt log a time stamp n (place.At k) age =
     (k < n) × (rowNames log a k ≡ true) × (age ≡ rowAge log time k) × ((j : ℕ) → k < j → j < n → rowNames log a j ≡ true → age < rowAge log time j)
 ChosenAt log a time stamp n place.Nowhere age = (age ≡ ageOf 32 time stamp) × ((j : ℕ) → j < n → rowNames log a j ≡ true → age < rowAge log time j)
 
--- "the smallest age among rows naming its record and the record itself", of the first n rows
+-- L3 (the smallest age), of the first n rows
 pub record Smallest (log : List ℕ) (a time stamp n : ℕ) (b : Best) : Type 0 where
   pub record-older : b .age ≤ ageOf 32 time stamp
   pub rows-older : (j : ℕ) → j < n → rowNames log a j ≡ true → b .age ≤ rowAge log time j

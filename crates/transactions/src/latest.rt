@@ -6,7 +6,7 @@ ghost use lib.ListN.{length};
 ghost use Rattle.opening.specs.Sheet.{Open};
 ghost use Rattle.verdicts.specs.Pairing.{OwnIf, ownOf};
 ghost use Rattle.opening.specs.Areas.{bufferAddress};
-ghost use Rattle.transactions.specs.Latest.{rowSize, considered, latestRow, firstBest, ownedLatest, indexedLatest, latestOf, LatestIf, latestPart};
+ghost use Rattle.transactions.specs.Latest.{rowSize, considered, latestRow, firstBest, ownedLatest, indexedLatest, latestOf, LatestIf, latestPart, LatestPlace};
 use area::place::Place;
 use area::record;
 use area::refusal::Refusal;
@@ -150,9 +150,11 @@ pub fn latest<'a>(
     index: u32,
     time: u32,
 ) -> &'a [u8]
-    ensures { λ r. ⌜ now r
+    ensures bytes { λ r. ⌜ now r
         ≡ latestPart (now (records .entry)) (now (log .entry))
         (latestOf (now (sheet .entry)) (now (heap .entry)) (now (records .entry)) (now (log .entry)) index time) ⌝ }
+    ensures place { λ r. ⌜ LatestPlace (records .entry) (log .entry)
+        (latestOf (now (sheet .entry)) (now (heap .entry)) (now (records .entry)) (now (log .entry)) index time) r ⌝ }
 {
     let found = find_latest(sheet, heap, records, log, index, time);
     match found {

@@ -1,5 +1,5 @@
 -- The part is cut where the answer says, from the log or from the records. Assumes nothing.
-use mathlib.Core.Path.{subst}
+use mathlib.Core.Path.{refl, subst}
 use Prim.Native.Nat.{_+_, _-_, _*_, _≤_}
 use native.Mathlib.Omega.{arith}
 use borrow.Author.Needs.{needs}
@@ -68,13 +68,13 @@ part-result-end-3 : tie.Need-part-result-end-3
 part-result-end-3 c = let k = record-inside (c .before) in omega arith
 
 returns : tie.Need-returns
-returns c = rw (← c .before .before .before .find-latest .ensures .0, c .before .enum-told .given .1)
+returns c = rw (← c .before .before .before .find-latest .ensures .0, c .before .enum-told .given .1) (refl, tt)
 
 returns-2 : tie.Need-returns-2
-returns-2 c = let f = c .before .before in rw (← f .before .before .find-latest .ensures .0, f .found .given .1) (part-lent _ (f .found .given .0 .0 * 16) 16)
+returns-2 c = let f = c .before .before in rw (← f .before .before .find-latest .ensures .0, f .found .given .1) (part-lent _ (f .found .given .0 .0 * 16) 16, (refl, omega arith))
 
 returns-3 : tie.Need-returns-3
-returns-3 c = let f = c .before .before in rw (← f .before .before .find-latest .ensures .0, f .found2 .given .1) (part-lent _ (f .found2 .given .0 .0 * 96) 96)
+returns-3 c = let f = c .before .before in rw (← f .before .before .find-latest .ensures .0, f .found2 .given .1) (part-lent _ (f .found2 .given .0 .0 * 96) 96, (refl, omega arith))
 
 pub latest-spec : {M : Type 1} → statement M
 latest-spec =

@@ -1,0 +1,86 @@
+// A survey as numbers: three for each buffer, and three for the chain.
+ghost use mathlib.Core.Path.{_≡_};
+ghost use Prim.Native.Nat.{_≤_};
+ghost use lib.ListN.{length};
+ghost use lib.Seq.{sets};
+ghost use Rattle.image.specs.Inspect.{InspectedIf, EndingIf};
+ghost use Rattle.image.specs.Numbers.{endingNumber, endingValue, chainNumbers, surveyNumbersOf};
+use crate::inspect;
+use crate::inspect::Inspected;
+use area::refusal::Refusal;
+use opening::sheet;
+use opening::sheet::Opened;
+use verdicts::chain::Ending;
+
+// The number of a chain's ending.
+fn ending_number(e: Ending) -> u32
+    ensures { λ r. ⌜ r ≡ endingNumber e ⌝ }
+{
+    match e {
+        Ending::End => 0,
+        Ending::Broken => 1,
+        Ending::Again(_) => 2,
+    }
+}
+
+// The record that a chain came back to, else 0.
+fn ending_value(e: Ending) -> u32
+    requires { ⌜ EndingIf 512 e ⌝ }
+    ensures { λ r. ⌜ r ≡ endingValue e ⌝ }
+{
+    match e {
+        Ending::End => 0,
+        Ending::Broken => 0,
+        Ending::Again(i) => i as u32,
+    }
+}
+
+// Writes the numbers of a chain that met so many records and ends so.
+fn put_chain(chain: &mut [u32], met: usize, ending: Ending)
+    requires { ⌜ 3 ≤ length (now chain) ⌝ }
+    requires { ⌜ met ≤ 512 ⌝ }
+    requires { ⌜ EndingIf 512 ending ⌝ }
+    ensures { λ _. ⌜ now (chain .exit) ≡ sets (now (chain .entry)) 0 (chainNumbers met ending) ⌝ }
+{
+    chain[0] = met as u32;
+    chain[1] = ending_number(ending);
+    chain[2] = ending_value(ending);
+}
+
+// Fills a lent row with three numbers for each buffer and another with the three of the chain, of an image with a log; or
+// refuses and leaves both as they were.
+pub fn survey_numbers(
+    sheet: &[u8],
+    heap: &[u8],
+    records: &[u8],
+    log: &[u8],
+    rows: &mut [u32],
+    chain: &mut [u32],
+) -> Inspected
+    ensures answer { λ r. ⌜ r
+        ≡ surveyNumbersOf (now (sheet .entry)) (now (heap .entry)) (now (records .entry)) (length (now (log .entry))) (now (rows .entry)) (now (chain .entry)) .answer ⌝ }
+    ensures rows { λ _. ⌜ now (rows .exit)
+        ≡ surveyNumbersOf (now (sheet .entry)) (now (heap .entry)) (now (records .entry)) (length (now (log .entry))) (now (rows .entry)) (now (chain .entry)) .rows ⌝ }
+    ensures chain { λ _. ⌜ now (chain .exit)
+        ≡ surveyNumbersOf (now (sheet .entry)) (now (heap .entry)) (now (records .entry)) (length (now (log .entry))) (now (rows .entry)) (now (chain .entry)) .chain ⌝ }
+    ensures small { λ r. ⌜ InspectedIf r ⌝ }
+{
+    let opened = sheet::open_with_log(sheet, heap.len(), records.len(), log.len());
+    match opened {
+        Opened::Refused(why) => Inspected::Refused(why),
+        Opened::Image(g) => {
+            let n = g.count;
+            if rows.len() < n * 3 {
+                return Inspected::Refused(Refusal::ShortOutput);
+            }
+            if chain.len() < 3 {
+                return Inspected::Refused(Refusal::ShortOutput);
+            }
+            let start = inspect::survey_open(heap, records, g, rows);
+            let met = start.met;
+            let ending = start.ending;
+            put_chain(chain, met, ending);
+            Inspected::Count(n)
+        }
+    }
+}
