@@ -5,7 +5,7 @@
 // The number returned.
 mod answer;
 
-// Inspect, latest transaction and report.
+// Lengths of the areas, inspect, survey, latest transaction and report.
 pub mod reader;
 
 // The heap's calls.
