@@ -1,28 +1,63 @@
--- What is known of a buffer that is taken. Assumes nothing.
-use mathlib.Core.Path.{refl, sym, subst}
-use mathlib.Core.Bool.{Bool, true, false}
-use Prim.Native.Nat.{ℕ}
-use Rattle.words.specs.Run.{pick}
+-- What is known of the buffer that an allocation takes, by the equation of its plan alone. Assumes nothing.
+use mathlib.Core.Path.{_≡_, subst}
+use mathlib.Core.List.{List}
+use Prim.Native.Nat.{ℕ, _<_}
+use lib.Dec.{eqb}
+use lib.ListN.{length}
+use Rattle.words.proofs.Tests.{by-test}
+use Rattle.tags.specs.Tag.{patternOf}
 use Rattle.tags.specs.Verdict.{verdictNumber, isFoundFree}
+use Rattle.tags.specs.declared.tag.Pattern.{Pattern}
+use Rattle.tags.specs.declared.tag.Pattern.the-variants as pattern
+use Rattle.chunks.specs.Chunk.{tagAt, lawfulSize}
+use Rattle.chunks.specs.Judge.{freeVerdict}
 use Rattle.chunks.specs.declared.chunk.Grant.{Grant}
-use Rattle.tags.specs.declared.verdict.Verdict.{Verdict}
-use Rattle.allocation.specs.Allocate.{ifFree, SpotIf, Takes, TakenIf}
-use Rattle.area.specs.declared.refusal.Refusal.{Refusal}
-use Rattle.area.specs.declared.refusal.Refusal.the-variants.{Damage}
+use Rattle.area.specs.Place.{placeOf}
+use Rattle.area.specs.Record.{recordSize, addressWord}
+use Rattle.area.proofs.Places.{place-found}
+use Rattle.area.proofs.Placed.{by-place}
+use Rattle.opening.specs.Areas.{Areas, byLengths, chunkAt}
+use Rattle.opening.specs.Sheet.{openedOf}
+use Rattle.opening.proofs.Opens.{opened-known, by-opened}
+use Rattle.allocation.specs.Allocate.{takenBy, takenChunk, takenHead, takenOf, allocatePlan, Takes}
 use Rattle.allocation.specs.declared.allocate.Spot.{Spot}
 use Rattle.allocation.specs.declared.allocate.AllocatePlan.{AllocatePlan}
 use Rattle.allocation.specs.declared.allocate.AllocatePlan.the-variants.{Take, Refused}
 
--- ---- a plan that takes a buffer
+-- what is claimed of a plan: of a buffer that it takes, that it can be taken
+abbrev TakenIf : Areas → Grant → AllocatePlan → Type 0
+TakenIf a q (Take p) = byLengths Takes a q p
+TakenIf a q (Refused why) = Unit {0}
 
-spot-picked : (b : Bool) (p : Spot) (why : Refusal) → SpotIf p (pick b (Take p) (Refused why))
-spot-picked true p why = refl
-spot-picked false p why = tt
+taken-by : (a : Areas) (q : Grant) (t : Pattern) (c : List ℕ) (p : Spot) → byLengths Takes a q p → TakenIf a q (takenBy t c p)
+taken-by a q pattern.Neither c p k = tt
+taken-by a q pattern.Allocated c p k = tt
+taken-by a q pattern.Free c p k = by-test (TakenIf a q) (isFoundFree (verdictNumber (freeVerdict c))) (λ t. k) (λ t. tt)
 
-pub free-spot : (v : Verdict) (p : Spot) → SpotIf p (ifFree v p)
-free-spot v p = spot-picked (isFoundFree (verdictNumber v)) p (Damage v)
+taken-if : (a : Areas) (q : Grant) → TakenIf a q (allocatePlan a q)
+unfolding allocatePlan takenOf takenHead takenChunk
+taken-if a q =
+    by-opened P (openedOf (a .sheet) (length (a .heap)) (length (a .records)))
+    (λ g e.
+    let o = opened-known (a .sheet) (length (a .heap)) (length (a .records)) g e in
+    by-test P (lawfulSize (g .size) q)
+    (λ l. by-test P (eqb (g .head) 0) (λ t. tt)
+    (λ t. by-place P (placeOf (g .records) recordSize (g .count) (g .head))
+    (λ j f. by-place P (placeOf (g .heap) (g .chunk) (g .count) (addressWord (a .records) j))
+    (λ i h.
+    let p : Spot = record { sheet = g; buffer = i; own = j } in
+    let c = chunkAt g (a .heap) i in
+    by-test P (eqb (tagAt c .t0) (g .head))
+    (λ t. taken-by a q (patternOf (tagAt c)) c p
+    (record { ready = record { long = o .long; opened = o .opens; buffer = place-found _ _ _ _ _ h .0; own = place-found _ _ _ _ _ f .0 }; granted = l }))
+    (λ t. tt))
+    tt)
+    tt))
+    (λ t. tt))
+    (λ why. tt)
+  where
+    P : AllocatePlan → Type 0
+    P = TakenIf a q
 
--- what is known of the buffer asked about is known of the one taken
-pub spot-taken : (s h r : ℕ) (q : Grant) (p : Spot) (a : AllocatePlan) → Takes s h r q p → SpotIf p a → TakenIf s h r q a
-spot-taken s h r q p (Take x) k e = subst (Takes s h r q) (sym e) k
-spot-taken s h r q p (Refused why) k e = tt
+pub taken-known : (a : Areas) (q : Grant) (p : Spot) → allocatePlan a q ≡ Take p → byLengths Takes a q p
+taken-known a q p e = subst (TakenIf a q) e (taken-if a q)

@@ -16,7 +16,7 @@ use Rattle.tags.specs.declared.tag.Pattern.the-variants as pattern
 use Rattle.chunks.specs.declared.chunk.Grant.{Grant}
 use Rattle.tags.specs.declared.verdict.Verdict.{Verdict}
 use Rattle.tags.specs.declared.verdict.Verdict.the-variants as verdict
-use Rattle.opening.specs.Areas.{Areas, Ready, Result, refusedWith, withHead, bufferAddress, chunkAt}
+use Rattle.opening.specs.Areas.{Areas, Ready, Result, result, refusedWith, withHead, bufferAddress, chunkAt}
 use Rattle.area.specs.Record.{stamped, recordSize, addressWord, nextWord}
 use Rattle.area.specs.Place.{placeOf, placed}
 use Rattle.opening.specs.Sheet.{openedOf, onOpened}
@@ -25,8 +25,8 @@ use Rattle.area.specs.declared.refusal.Refusal.the-variants.{NoRoom, BadSize, D
 use Rattle.allocation.specs.declared.allocate.Spot.{Spot}
 use Rattle.allocation.specs.declared.allocate.AllocatePlan.{AllocatePlan}
 use Rattle.allocation.specs.declared.allocate.AllocatePlan.the-variants.{Take, Refused}
-use Rattle.allocation.specs.declared.allocate.Allocated.{Allocated}
-use Rattle.allocation.specs.declared.allocate.Allocated.the-variants as allocated
+use Rattle.area.specs.declared.refusal.Answer.{Answer}
+use Rattle.area.specs.declared.refusal.Answer.the-variants as answer
 
 -- E5 (fill 25, redzone 26): a buffer that is found free is taken; any other verdict refuses
 abbrev pub ifFree : Verdict → Spot → AllocatePlan
@@ -67,11 +67,11 @@ grantedAreas a q uptime thread p = record {
 }
 
 -- K5 (allocate answers the buffer's address), E1
-abbrev pub allocateBy : Areas → Grant → ℕ → ℕ → AllocatePlan → Result Allocated
-allocateBy a q uptime thread (Take p) = record { answer = allocated.At (bufferAddress (p .sheet) (p .buffer)); areas = grantedAreas a q uptime thread p }
-allocateBy a q uptime thread (Refused why) = refusedWith (allocated.Refused why) a
+abbrev pub allocateBy : Areas → Grant → ℕ → ℕ → AllocatePlan → Result Answer
+allocateBy a q uptime thread (Take p) = result (answer.Value (bufferAddress (p .sheet) (p .buffer))) (grantedAreas a q uptime thread p)
+allocateBy a q uptime thread (Refused why) = refusedWith (answer.Refused why) a
 
-unfoldable pub allocateOf : Areas → Grant → ℕ → ℕ → Result Allocated
+unfoldable pub allocateOf : Areas → Grant → ℕ → ℕ → Result Answer
 allocateOf a q uptime thread = allocateBy a q uptime thread (allocatePlan a q)
 
 -- ---- what is known of a buffer that is taken, in areas of s, h and r bytes
@@ -79,12 +79,3 @@ allocateOf a q uptime thread = allocateBy a q uptime thread (allocatePlan a q)
 pub record Takes (s h r : ℕ) (q : Grant) (p : Spot) : Type 0 where
   pub ready : Ready s h r (p .sheet) (p .buffer) (p .own)
   pub granted : lawfulSize (p .sheet .size) q ≡ true
-
-abbrev pub TakenIf : ℕ → ℕ → ℕ → Grant → AllocatePlan → Type 0
-TakenIf s h r q (Take p) = Takes s h r q p
-TakenIf s h r q (Refused why) = Unit {0}
-
--- a plan takes the buffer that it was asked about, if any
-abbrev pub SpotIf : Spot → AllocatePlan → Type 0
-SpotIf p (Take q) = q ≡ p
-SpotIf p (Refused why) = Unit {0}

@@ -1,15 +1,15 @@
 // Allocate: a plan that only reads, and a commit that cannot fail.
 ghost use mathlib.Core.Path.{_≡_};
-ghost use mathlib.Core.Bool.{true};
 ghost use Prim.Native.Nat.{_*_, _<_};
 ghost use lib.ListN.{length};
 ghost use Rattle.chunks.specs.Chunk.{lawfulSize};
 ghost use Rattle.opening.specs.Areas.{lent, before, after, byLengths, result};
 ghost use Rattle.opening.specs.Sheet.{Lawful, Open};
-ghost use Rattle.allocation.specs.Allocate.{ifFree, takenChunk, takenHead, takenOf, SpotIf, allocatePlan, TakenIf, Takes, grantedAreas, allocateOf};
+ghost use Rattle.allocation.specs.Allocate.{ifFree, takenChunk, takenHead, takenOf, allocatePlan, Takes, grantedAreas, allocateOf};
 use area::place;
 use area::place::Place;
 use area::record;
+use area::refusal::Answer;
 use area::refusal::Refusal;
 use chunks::chunk;
 use chunks::chunk::Grant;
@@ -32,12 +32,6 @@ pub struct Spot {
 // What an allocation will do.
 pub enum AllocatePlan {
     Take(Spot),
-    Refused(Refusal),
-}
-
-// The address of the buffer granted, or why there is none.
-pub enum Allocated {
-    At(u32),
     Refused(Refusal),
 }
 
@@ -71,7 +65,6 @@ fn take_chunk(chunk: &[u8], p: Spot) -> AllocatePlan
     requires { ⌜ length (now chunk) ≡ p .sheet .chunk ⌝ }
     requires { ⌜ Lawful (p .sheet) ⌝ }
     ensures { λ r. ⌜ r ≡ takenChunk (p .sheet) (now (chunk .entry)) (p .own) (p .buffer) ⌝ }
-    ensures { λ r. ⌜ SpotIf p r ⌝ }
 {
     let g = p.sheet;
     let tag = chunk::read_tag(chunk);
@@ -87,11 +80,9 @@ fn take_chunk(chunk: &[u8], p: Spot) -> AllocatePlan
 }
 
 // The step before it: the head must be a record's address, and that record's word a buffer's.
-fn take_head(heap: &[u8], records: &[u8], g: Sheet, grant: Grant) -> AllocatePlan
+fn take_head(heap: &[u8], records: &[u8], g: Sheet) -> AllocatePlan
     requires { ⌜ Open (length (now heap)) (length (now records)) g ⌝ }
-    requires { ⌜ lawfulSize (g .size) grant ≡ true ⌝ }
     ensures { λ r. ⌜ r ≡ takenHead g (now (heap .entry)) (now (records .entry)) ⌝ }
-    ensures { λ r. ⌜ TakenIf 48 (length (now (heap .entry))) (length (now (records .entry))) grant r ⌝ }
 {
     let head = place::find(g.records, record::SIZE, g.count, g.head);
     match head {
@@ -126,13 +117,12 @@ fn take_head(heap: &[u8], records: &[u8], g: Sheet, grant: Grant) -> AllocatePla
 fn take(heap: &[u8], records: &[u8], g: Sheet, grant: Grant) -> AllocatePlan
     requires { ⌜ Open (length (now heap)) (length (now records)) g ⌝ }
     ensures { λ r. ⌜ r ≡ takenOf g (now (heap .entry)) (now (records .entry)) grant ⌝ }
-    ensures { λ r. ⌜ TakenIf 48 (length (now (heap .entry))) (length (now (records .entry))) grant r ⌝ }
 {
     if lawful_size(grant, g.size) {
         if g.head == 0 {
             return AllocatePlan::Refused(Refusal::NoRoom);
         }
-        return take_head(heap, records, g, grant);
+        return take_head(heap, records, g);
     }
     AllocatePlan::Refused(Refusal::BadSize)
 }
@@ -140,7 +130,6 @@ fn take(heap: &[u8], records: &[u8], g: Sheet, grant: Grant) -> AllocatePlan
 // What an allocation will do. It reads and writes nothing.
 fn plan(sheet: &[u8], heap: &[u8], records: &[u8], grant: Grant) -> AllocatePlan
     ensures { λ r. ⌜ r ≡ allocatePlan (before sheet heap records) grant ⌝ }
-    ensures { λ r. ⌜ byLengths TakenIf (before sheet heap records) grant r ⌝ }
 {
     let opened = sheet::open(sheet, heap.len(), records.len());
     match opened {
@@ -171,7 +160,7 @@ fn commit(
     word::write_u32(sheet, sheet::HEAD, next);
 }
 
-// Grants a buffer, or refuses and leaves every byte as it was.
+// Grants a buffer and answers its address, or refuses and leaves every byte as it was.
 pub fn allocate(
     sheet: &mut [u8],
     heap: &mut [u8],
@@ -179,16 +168,16 @@ pub fn allocate(
     grant: Grant,
     uptime: u32,
     thread: u32,
-) -> Allocated
+) -> Answer
     ensures { λ r. ⌜ result r (after sheet heap records) ≡ allocateOf (before sheet heap records) grant uptime thread ⌝ }
 {
     let planned = plan(sheet, heap, records, grant);
     match planned {
-        AllocatePlan::Refused(why) => Allocated::Refused(why),
+        AllocatePlan::Refused(why) => Answer::Refused(why),
         AllocatePlan::Take(p) => {
             commit(sheet, heap, records, grant, p, uptime, thread);
             let g = p.sheet;
-            Allocated::At(g.heap + (p.buffer * g.chunk) as u32)
+            Answer::Value(g.heap + (p.buffer * g.chunk) as u32)
         }
     }
 }

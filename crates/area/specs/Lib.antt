@@ -1,3 +1,4 @@
 pub mod Refusal
 pub mod Place
 pub mod Record
+pub mod Filling

@@ -2,6 +2,8 @@
 use Prim.Native.Nat.{ℕ}
 use Rattle.tags.specs.Verdict.{verdictNumber}
 use Rattle.area.specs.declared.refusal.Refusal.{Refusal}
+use Rattle.area.specs.declared.refusal.Answer.{Answer}
+use Rattle.area.specs.declared.refusal.Answer.the-variants.{Value}
 use Rattle.area.specs.declared.refusal.Refusal.the-variants.{BadSheet, BadNumber, BadLength, NoSuchBuffer, NoRoom, BadSize, Damage, BrokenHead, NotAllocated, OtherGrant, PastClient, ShortOutput, WideStamp}
 
 -- X1 to X12: the rule's number is the refusal's
@@ -35,3 +37,7 @@ refusalDetail OtherGrant = 0
 refusalDetail PastClient = 0
 refusalDetail ShortOutput = 0
 refusalDetail WideStamp = 0
+
+-- a call that was carried out and has nothing to tell
+abbrev pub done : Answer
+done = Value 0

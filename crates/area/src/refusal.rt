@@ -21,9 +21,9 @@ pub enum Refusal {
     WideStamp,
 }
 
-// Whether a call that answers nothing else was carried out.
-pub enum Outcome {
-    Done,
+// What a call answers: a number, which is 0 where there is nothing to tell, or why it is refused.
+pub enum Answer {
+    Value(u32),
     Refused(Refusal),
 }
 

@@ -3,6 +3,7 @@ use mathlib.Core.List.{List}
 use Prim.Native.Nat.{ℕ}
 use lib.ListN.{getD, replicate}
 use Rattle.tags.specs.declared.verdict.Verdict.the-variants.{Whole}
+use Rattle.opening.specs.Areas.{Areas}
 use Rattle.image.specs.Inspect.{inspectOf}
 use Rattle.image.specs.declared.inspect.Finding.{Finding}
 use Rattle.call_trace.specs.declared.findings.Seen.{Seen}
@@ -15,8 +16,5 @@ abbrev pub blanks : List Finding
 blanks = replicate 4 blank
 
 -- the answer, and row k, of an inspection into four such rows
-abbrev pub seenOf : List ℕ → List ℕ → List ℕ → ℕ → Seen
-seenOf s heap records k = record {
-  answer = inspectOf s heap records blanks .answer;
-  finding = getD (inspectOf s heap records blanks .rows) k blank;
-}
+abbrev pub seenOf : Areas → ℕ → Seen
+seenOf a k = record { answer = inspectOf a blanks .answer; finding = getD (inspectOf a blanks .rows) k blank }

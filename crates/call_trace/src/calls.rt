@@ -2,26 +2,24 @@
 use crate::findings;
 use crate::lines;
 use allocation::allocate;
-use allocation::allocate::Allocated;
-use area::refusal::Outcome;
+use area::refusal::Answer;
 use chunks::chunk::Grant;
 use holding::free;
 use holding::show;
 use holding::show::Shown;
 use holding::store;
 use image::inspect::Finding;
-use image::inspect::Inspected;
 use tags::verdict;
 use transactions::latest;
 use transactions::latest::Transaction;
 use window::Word;
 
 // The line of a call that answers nothing but whether it was carried out.
-pub(crate) fn put_outcome(call: &[u8], answer: Outcome) {
+pub(crate) fn put_outcome(call: &[u8], answer: Answer) {
     lines::put_word(call);
     match answer {
-        Outcome::Refused(why) => lines::put_refusal(why),
-        Outcome::Done => {
+        Answer::Refused(why) => lines::put_refusal(why),
+        Answer::Value(_) => {
             lines::put_word(b" done");
             lines::end();
         }
@@ -29,11 +27,11 @@ pub(crate) fn put_outcome(call: &[u8], answer: Outcome) {
 }
 
 // The line of an allocation.
-fn put_allocated(answer: Allocated) {
+fn put_allocated(answer: Answer) {
     lines::put_word(b"allocate");
     match answer {
-        Allocated::Refused(why) => lines::put_refusal(why),
-        Allocated::At(address) => {
+        Answer::Refused(why) => lines::put_refusal(why),
+        Answer::Value(address) => {
             lines::put_number(address as u64);
             lines::end();
         }
@@ -135,11 +133,11 @@ pub(crate) fn latest<'a>(
 }
 
 // The line of an inspection's answer.
-fn put_inspected(answer: Inspected) {
+fn put_inspected(answer: Answer) {
     lines::put_word(b"inspect");
     match answer {
-        Inspected::Refused(why) => lines::put_refusal(why),
-        Inspected::Count(n) => {
+        Answer::Refused(why) => lines::put_refusal(why),
+        Answer::Value(n) => {
             lines::put_number(n as u64);
             lines::end();
         }

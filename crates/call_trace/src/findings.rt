@@ -2,22 +2,23 @@
 // is seen to stay.
 ghost use mathlib.Core.Path.{_≡_};
 ghost use Prim.Native.Nat.{_<_};
+ghost use Rattle.opening.specs.Areas.{before};
 ghost use Rattle.call_trace.specs.Findings.{seenOf};
+use area::refusal::Answer;
 use image::inspect;
 use image::inspect::Finding;
-use image::inspect::Inspected;
 use tags::verdict::Verdict;
 
 // What an inspection answers, and one row of its findings.
 pub struct Seen {
-    pub answer: Inspected,
+    pub answer: Answer,
     pub finding: Finding,
 }
 
 // Inspects an image, and answers with row k. The rows hold an index at first that no row of four can be given.
 pub(crate) fn look(sheet: &[u8], heap: &[u8], records: &[u8], k: usize) -> Seen
     requires { ⌜ k < 4 ⌝ }
-    ensures { λ r. ⌜ r ≡ seenOf (now (sheet .entry)) (now (heap .entry)) (now (records .entry)) k ⌝ }
+    ensures { λ r. ⌜ r ≡ seenOf (before sheet heap records) k ⌝ }
 {
     let mut rows = [Finding {
         index: 9,

@@ -2,19 +2,26 @@
 use mathlib.Core.List.{List, [], _∷_}
 use Prim.Native.Nat.{ℕ}
 use lib.Seq.{sets}
-use Rattle.area.specs.declared.refusal.Outcome.{Outcome}
-use Rattle.area.specs.declared.refusal.Outcome.the-variants.{Done, Refused}
+use Rattle.area.specs.declared.refusal.Answer.{Answer}
+use Rattle.area.specs.declared.refusal.Answer.the-variants.{Refused}
+use Rattle.area.specs.Refusal.{done}
 use Rattle.area.specs.declared.refusal.Refusal.the-variants.{ShortOutput}
 use Rattle.opening.specs.Sheet.{lengthsOf}
 use Rattle.opening.specs.declared.sheet.Lengths.{Lengths}
 use Rattle.opening.specs.declared.sheet.Lengths.the-variants as lengths
-use Rattle.image.specs.Inspect.{Filling, unfilled, ifRoom}
+use Rattle.image.specs.Numbers.{Numbered, numbering}
+use Rattle.capi.specs.Answer.{answerWord}
+use Rattle.area.specs.Filling.{Filling, filling, unfilled, ifRoom}
 
 -- F4 (two numbers): the heap's length and then the record area's, in a row with room for both
-abbrev pub lengthsIn : List ℕ → Lengths → Filling Outcome ℕ
-lengthsIn row (lengths.Areas heap records) = ifRoom 2 row (record { answer = Done; rows = sets row 0 (heap ∷ records ∷ []) }) (Refused ShortOutput)
+abbrev pub lengthsIn : List ℕ → Lengths → Filling Answer ℕ
+lengthsIn row (lengths.Areas heap records) = ifRoom 2 row (filling done (sets row 0 (heap ∷ records ∷ []))) (Refused ShortOutput)
 lengthsIn row (lengths.Refused why) = unfilled (Refused why) row
 
 -- F4 (X1 and X2, then X11)
-unfoldable pub areaLengthsOf : List ℕ → List ℕ → Filling Outcome ℕ
+unfoldable pub areaLengthsOf : List ℕ → List ℕ → Filling Answer ℕ
 areaLengthsOf s row = lengthsIn row (lengthsOf s)
+
+-- F5 (the survey): the rows and the chain, with the answer as one number
+abbrev pub surveyWord : Numbered Answer → Numbered ℕ
+surveyWord n = numbering (answerWord (n .answer)) (n .rows) (n .chain)

@@ -1,13 +1,13 @@
 // The calls that a client makes.
 ghost use mathlib.Core.Path.{_≡_};
-ghost use Rattle.opening.specs.Areas.{areas};
+ghost use Rattle.opening.specs.Areas.{before, after, result, answered};
 ghost use Rattle.layout.specs.Layout.{layOutOf};
 ghost use Rattle.allocation.specs.Allocate.{allocateOf};
 ghost use Rattle.holding.specs.Free.{freeOf};
 ghost use Rattle.holding.specs.Store.{storeOf};
 ghost use Rattle.opening.specs.Sheet.{sheetOf};
 ghost use Rattle.holding.specs.Show.{shownOf, StartsAt};
-ghost use Rattle.capi.specs.Answer.{grantOf, outcomeWord, allocateWord, showWord};
+ghost use Rattle.capi.specs.Answer.{grantOf, answerWord, showWord};
 use crate::answer;
 use allocation::allocate;
 use chunks::chunk::Grant;
@@ -38,16 +38,10 @@ pub extern "C" fn cg_lay_out(
     heap: &mut [u8],
     records: &mut [u8],
 ) -> u64
-    ensures answer { λ r. ⌜ r
-        ≡ outcomeWord (layOutOf (areas (now (sheet .entry)) (now (heap .entry)) (now (records .entry))) cache «heap_base» «record_base» size count .answer) ⌝ }
-    ensures sheet { λ _. ⌜ now (sheet .exit)
-        ≡ layOutOf (areas (now (sheet .entry)) (now (heap .entry)) (now (records .entry))) cache «heap_base» «record_base» size count .areas .sheet ⌝ }
-    ensures heap { λ _. ⌜ now (heap .exit)
-        ≡ layOutOf (areas (now (sheet .entry)) (now (heap .entry)) (now (records .entry))) cache «heap_base» «record_base» size count .areas .heap ⌝ }
-    ensures records { λ _. ⌜ now (records .exit)
-        ≡ layOutOf (areas (now (sheet .entry)) (now (heap .entry)) (now (records .entry))) cache «heap_base» «record_base» size count .areas .records ⌝ }
+    ensures { λ r. ⌜ result r (after sheet heap records)
+        ≡ answered answerWord (layOutOf (before sheet heap records) cache «heap_base» «record_base» size count) ⌝ }
 {
-    answer::outcome(layout::lay_out(
+    answer::word(layout::lay_out(
         cache,
         heap_base,
         record_base,
@@ -70,17 +64,11 @@ pub extern "C" fn cg_allocate(
     uptime: u32,
     thread: u32,
 ) -> u64
-    ensures answer { λ r. ⌜ r
-        ≡ allocateWord (allocateOf (areas (now (sheet .entry)) (now (heap .entry)) (now (records .entry))) (grantOf whole size) uptime thread .answer) ⌝ }
-    ensures sheet { λ _. ⌜ now (sheet .exit)
-        ≡ allocateOf (areas (now (sheet .entry)) (now (heap .entry)) (now (records .entry))) (grantOf whole size) uptime thread .areas .sheet ⌝ }
-    ensures heap { λ _. ⌜ now (heap .exit)
-        ≡ allocateOf (areas (now (sheet .entry)) (now (heap .entry)) (now (records .entry))) (grantOf whole size) uptime thread .areas .heap ⌝ }
-    ensures records { λ _. ⌜ now (records .exit)
-        ≡ allocateOf (areas (now (sheet .entry)) (now (heap .entry)) (now (records .entry))) (grantOf whole size) uptime thread .areas .records ⌝ }
+    ensures { λ r. ⌜ result r (after sheet heap records)
+        ≡ answered answerWord (allocateOf (before sheet heap records) (grantOf whole size) uptime thread) ⌝ }
 {
     let asked = grant(whole, size);
-    answer::allocated(allocate::allocate(sheet, heap, records, asked, uptime, thread))
+    answer::word(allocate::allocate(sheet, heap, records, asked, uptime, thread))
 }
 
 // Frees the buffer at an address.
@@ -95,17 +83,11 @@ pub extern "C" fn cg_free(
     uptime: u32,
     thread: u32,
 ) -> u64
-    ensures answer { λ r. ⌜ r
-        ≡ outcomeWord (freeOf (areas (now (sheet .entry)) (now (heap .entry)) (now (records .entry))) address (grantOf whole size) uptime thread .answer) ⌝ }
-    ensures sheet { λ _. ⌜ now (sheet .exit)
-        ≡ freeOf (areas (now (sheet .entry)) (now (heap .entry)) (now (records .entry))) address (grantOf whole size) uptime thread .areas .sheet ⌝ }
-    ensures heap { λ _. ⌜ now (heap .exit)
-        ≡ freeOf (areas (now (sheet .entry)) (now (heap .entry)) (now (records .entry))) address (grantOf whole size) uptime thread .areas .heap ⌝ }
-    ensures records { λ _. ⌜ now (records .exit)
-        ≡ freeOf (areas (now (sheet .entry)) (now (heap .entry)) (now (records .entry))) address (grantOf whole size) uptime thread .areas .records ⌝ }
+    ensures { λ r. ⌜ result r (after sheet heap records)
+        ≡ answered answerWord (freeOf (before sheet heap records) address (grantOf whole size) uptime thread) ⌝ }
 {
     let given = grant(whole, size);
-    answer::outcome(free::free(sheet, heap, records, address, given, uptime, thread))
+    answer::word(free::free(sheet, heap, records, address, given, uptime, thread))
 }
 
 // Stores bytes at an offset in the buffer at an address.
@@ -118,22 +100,19 @@ pub extern "C" fn cg_store(
     offset: u32,
     bytes: &[u8],
 ) -> u64
-    ensures answer { λ r. ⌜ r
-        ≡ outcomeWord (storeOf (areas (now (sheet .entry)) (now (heap .entry)) (now (records .entry))) address offset (now (bytes .entry)) .answer) ⌝ }
-    ensures heap { λ _. ⌜ now (heap .exit)
-        ≡ storeOf (areas (now (sheet .entry)) (now (heap .entry)) (now (records .entry))) address offset (now (bytes .entry)) .areas .heap ⌝ }
+    ensures { λ r. ⌜ result r (after sheet heap records)
+        ≡ answered answerWord (storeOf (before sheet heap records) address offset (now (bytes .entry))) ⌝ }
 {
-    answer::outcome(store::store(sheet, heap, records, address, offset, bytes))
+    answer::word(store::store(sheet, heap, records, address, offset, bytes))
 }
 
 // Counts the client's bytes of the buffer at an address. The value is their number. Where they start follows from the address: in
 // the heap at the address less the heap's base.
 #[no_mangle]
 pub extern "C" fn cg_show(sheet: &[u8], heap: &[u8], records: &[u8], address: u32) -> u64
-    ensures answer { λ r. ⌜ r
-        ≡ showWord (shownOf (areas (now (sheet .entry)) (now (heap .entry)) (now (records .entry))) address) ⌝ }
+    ensures answer { λ r. ⌜ r ≡ showWord (shownOf (before sheet heap records) address) ⌝ }
     ensures starts { λ _. ⌜ StartsAt (sheetOf (now (sheet .entry)) .heap) address
-        (shownOf (areas (now (sheet .entry)) (now (heap .entry)) (now (records .entry))) address) ⌝ }
+        (shownOf (before sheet heap records) address) ⌝ }
 {
     let c = show::find_client(sheet, heap, records, address);
     match c {

@@ -1,30 +1,31 @@
 // What is read off an image.
 ghost use mathlib.Core.Path.{_≡_};
 ghost use lib.ListN.{length};
+ghost use Rattle.area.specs.Filling.{filling, told};
+ghost use Rattle.opening.specs.Areas.{before};
 ghost use Rattle.image.specs.Inspect.{tabulateOf};
-ghost use Rattle.image.specs.Numbers.{surveyNumbersOf};
+ghost use Rattle.image.specs.Numbers.{numbering, surveyNumbersOf};
 ghost use Rattle.transactions.specs.Latest.{latestOf};
 ghost use Rattle.report.specs.Answer.{reportOf};
-ghost use Rattle.capi.specs.Answer.{inspectWord, latestWord, reportWord, outcomeWord};
-ghost use Rattle.capi.specs.Reader.{areaLengthsOf};
+ghost use Rattle.capi.specs.Answer.{answerWord, latestWord};
+ghost use Rattle.capi.specs.Reader.{areaLengthsOf, surveyWord};
 use crate::answer::accepted;
-use crate::answer::inspected;
 use crate::answer::refused;
+use crate::answer::word;
 use area::refusal::Refusal;
 use image::inspect;
 use image::numbers;
 use opening::sheet;
 use opening::sheet::Lengths;
 use report::answer;
-use report::answer::Reported;
 use transactions::latest;
 use transactions::latest::Transaction;
 
 // Writes the heap's length and the record area's, as the sheet has them. The value is 0.
 #[no_mangle]
 pub extern "C" fn cg_area_lengths(sheet: &[u8], lengths: &mut [u32]) -> u64
-    ensures answer { λ r. ⌜ r ≡ outcomeWord (areaLengthsOf (now (sheet .entry)) (now (lengths .entry)) .answer) ⌝ }
-    ensures lengths { λ _. ⌜ now (lengths .exit) ≡ areaLengthsOf (now (sheet .entry)) (now (lengths .entry)) .rows ⌝ }
+    ensures { λ r. ⌜ filling r (now (lengths .exit))
+        ≡ told answerWord (areaLengthsOf (now (sheet .entry)) (now (lengths .entry))) ⌝ }
 {
     let asked = sheet::area_lengths(sheet);
     match asked {
@@ -43,12 +44,10 @@ pub extern "C" fn cg_area_lengths(sheet: &[u8], lengths: &mut [u32]) -> u64
 // Fills three numbers for each buffer: index, verdict number, size or offset. The value is the number of buffers.
 #[no_mangle]
 pub extern "C" fn cg_inspect(sheet: &[u8], heap: &[u8], records: &[u8], rows: &mut [u32]) -> u64
-    ensures answer { λ r. ⌜ r
-        ≡ inspectWord (tabulateOf (now (sheet .entry)) (now (heap .entry)) (now (records .entry)) (now (rows .entry)) .answer) ⌝ }
-    ensures rows { λ _. ⌜ now (rows .exit)
-        ≡ tabulateOf (now (sheet .entry)) (now (heap .entry)) (now (records .entry)) (now (rows .entry)) .rows ⌝ }
+    ensures { λ r. ⌜ filling r (now (rows .exit))
+        ≡ told answerWord (tabulateOf (before sheet heap records) (now (rows .entry))) ⌝ }
 {
-    inspected(inspect::tabulate(sheet, heap, records, rows))
+    word(inspect::tabulate(sheet, heap, records, rows))
 }
 
 // Fills the same numbers of an image with a log, and three of the chain: records met, ending, the record that it came back to.
@@ -62,14 +61,11 @@ pub extern "C" fn cg_survey(
     rows: &mut [u32],
     chain: &mut [u32],
 ) -> u64
-    ensures answer { λ r. ⌜ r
-        ≡ inspectWord (surveyNumbersOf (now (sheet .entry)) (now (heap .entry)) (now (records .entry)) (length (now (log .entry))) (now (rows .entry)) (now (chain .entry)) .answer) ⌝ }
-    ensures rows { λ _. ⌜ now (rows .exit)
-        ≡ surveyNumbersOf (now (sheet .entry)) (now (heap .entry)) (now (records .entry)) (length (now (log .entry))) (now (rows .entry)) (now (chain .entry)) .rows ⌝ }
-    ensures chain { λ _. ⌜ now (chain .exit)
-        ≡ surveyNumbersOf (now (sheet .entry)) (now (heap .entry)) (now (records .entry)) (length (now (log .entry))) (now (rows .entry)) (now (chain .entry)) .chain ⌝ }
+    ensures { λ r. ⌜ numbering r (now (rows .exit)) (now (chain .exit))
+        ≡ surveyWord (surveyNumbersOf (before sheet heap records) (length (now (log .entry)))
+        (now (rows .entry)) (now (chain .entry))) ⌝ }
 {
-    inspected(numbers::survey_numbers(sheet, heap, records, log, rows, chain))
+    word(numbers::survey_numbers(sheet, heap, records, log, rows, chain))
 }
 
 // Finds the latest transaction of a buffer. The value is the log row's number, or 0x80000000 plus the record's index.
@@ -82,8 +78,7 @@ pub extern "C" fn cg_latest(
     index: u32,
     time: u32,
 ) -> u64
-    ensures { λ r. ⌜ r
-        ≡ latestWord (latestOf (now (sheet .entry)) (now (heap .entry)) (now (records .entry)) (now (log .entry)) index time) ⌝ }
+    ensures { λ r. ⌜ r ≡ latestWord (latestOf (before sheet heap records) (now (log .entry)) index time) ⌝ }
 {
     let t = latest::find_latest(sheet, heap, records, log, index, time);
     match t {
@@ -102,14 +97,8 @@ pub extern "C" fn cg_report(
     log: &[u8],
     output: &mut [u8],
 ) -> u64
-    ensures answer { λ r. ⌜ r
-        ≡ reportWord (reportOf (now (sheet .entry)) (now (heap .entry)) (now (records .entry)) (length (now (log .entry))) (now (output .entry)) .answer) ⌝ }
-    ensures output { λ _. ⌜ now (output .exit)
-        ≡ reportOf (now (sheet .entry)) (now (heap .entry)) (now (records .entry)) (length (now (log .entry))) (now (output .entry)) .output ⌝ }
+    ensures { λ r. ⌜ filling r (now (output .exit))
+        ≡ told answerWord (reportOf (before sheet heap records) (length (now (log .entry))) (now (output .entry))) ⌝ }
 {
-    let r = answer::report(sheet, heap, records, log, output);
-    match r {
-        Reported::Refused(why) => refused(why),
-        Reported::Length(n) => accepted(n as u32),
-    }
+    word(answer::report(sheet, heap, records, log, output))
 }

@@ -8,12 +8,13 @@ use Rattle.words.specs.Run.{pick}
 use Rattle.chunks.specs.Chunk.{freeChunk}
 use Rattle.chunks.specs.declared.chunk.Grant.{Grant}
 use Rattle.chunks.specs.declared.chunk.Grant.the-variants.{Whole, Sized}
-use Rattle.opening.specs.Areas.{Areas, Result, refusedWith, withHead, recordAddress}
+use Rattle.opening.specs.Areas.{Areas, Result, result, refusedWith, withHead, recordAddress}
 use Rattle.area.specs.Record.{stamped, recordSize, nextAt}
 use Rattle.holding.specs.Holding.{heldOf, clientAt}
 use Rattle.area.specs.declared.refusal.Refusal.the-variants.{OtherGrant}
-use Rattle.area.specs.declared.refusal.Outcome.{Outcome}
-use Rattle.area.specs.declared.refusal.Outcome.the-variants.{Done, Refused}
+use Rattle.area.specs.declared.refusal.Answer.{Answer}
+use Rattle.area.specs.declared.refusal.Answer.the-variants.{Refused}
+use Rattle.area.specs.Refusal.{done}
 use Rattle.holding.specs.declared.holding.Holding.{Holding}
 use Rattle.holding.specs.declared.holding.Held.{Held}
 use Rattle.holding.specs.declared.holding.Held.the-variants as held
@@ -42,9 +43,9 @@ freedAreas a uptime thread h = record {
 }
 
 -- K7 (free), E1
-abbrev pub freeBy : Areas → ℕ → ℕ → Held → Result Outcome
-freeBy a uptime thread (held.Buffer h) = record { answer = Done; areas = freedAreas a uptime thread h }
+abbrev pub freeBy : Areas → ℕ → ℕ → Held → Result Answer
+freeBy a uptime thread (held.Buffer h) = result done (freedAreas a uptime thread h)
 freeBy a uptime thread (held.Refused why) = refusedWith (Refused why) a
 
-unfoldable pub freeOf : Areas → ℕ → Grant → ℕ → ℕ → Result Outcome
+unfoldable pub freeOf : Areas → ℕ → Grant → ℕ → ℕ → Result Answer
 freeOf a address q uptime thread = freeBy a uptime thread (freePlan a address q)

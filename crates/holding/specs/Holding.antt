@@ -67,7 +67,3 @@ clientAt h = h .buffer * h .sheet .chunk
 pub record Holds (s h r : ℕ) (p : Holding) : Type 0 where
   pub ready : Ready s h r (p .sheet) (p .buffer) (p .own)
   pub granted : lawfulSize (p .sheet .size) (p .grant) ≡ true
-
-abbrev pub HeldIf : ℕ → ℕ → ℕ → Held → Type 0
-HeldIf s h r (Buffer p) = Holds s h r p
-HeldIf s h r (Refused why) = Unit {0}

@@ -1,7 +1,7 @@
 -- Show. Assumes nothing.
 use mathlib.Core.Path.{_≡_}
 use mathlib.Core.List.{List, []}
-use Prim.Native.Nat.{ℕ, _+_, _≤_}
+use Prim.Native.Nat.{ℕ, _+_}
 use denote.Ref.{RefT}
 use Rattle.words.specs.Word.{part}
 use Rattle.chunks.specs.Chunk.{grantSize}
@@ -35,8 +35,3 @@ ShownPlace heap (Refused why) p = Unit {0}
 abbrev pub StartsAt : ℕ → ℕ → Shown → Type 0
 StartsAt base address (Client at len) = base + at ≡ address
 StartsAt base address (Refused why) = Unit {0}
-
--- what is known of an answer: the bytes lie in a heap of h bytes, and are few
-abbrev pub ShownIf : ℕ → Shown → Type 0
-ShownIf h (Client at len) = (at + len ≤ h) × (len ≤ 4096)
-ShownIf h (Refused why) = Unit {0}

@@ -1,16 +1,17 @@
 -- Store. Assumes nothing.
 use mathlib.Core.List.{List}
-use Prim.Native.Nat.{ℕ, _+_, _≤_}
+use Prim.Native.Nat.{ℕ, _+_}
 use lib.Dec.{leb}
 use lib.ListN.{length}
 use lib.Seq.{sets}
 use Rattle.words.specs.Run.{pick}
 use Rattle.chunks.specs.Chunk.{grantSize}
-use Rattle.opening.specs.Areas.{Areas, Result, refusedWith}
+use Rattle.opening.specs.Areas.{Areas, Result, result, refusedWith}
 use Rattle.holding.specs.Holding.{heldOf, clientAt}
 use Rattle.area.specs.declared.refusal.Refusal.the-variants.{PastClient}
-use Rattle.area.specs.declared.refusal.Outcome.{Outcome}
-use Rattle.area.specs.declared.refusal.Outcome.the-variants.{Done, Refused}
+use Rattle.area.specs.declared.refusal.Answer.{Answer}
+use Rattle.area.specs.declared.refusal.Answer.the-variants.{Refused}
+use Rattle.area.specs.Refusal.{done}
 use Rattle.holding.specs.declared.holding.Holding.{Holding}
 use Rattle.holding.specs.declared.holding.Held.{Held}
 use Rattle.holding.specs.declared.holding.Held.the-variants as held
@@ -28,14 +29,9 @@ unfoldable pub storedAreas : Areas → ℕ → List ℕ → Holding → Areas
 storedAreas a offset bytes h = record { sheet = a .sheet; heap = sets (a .heap) (clientAt h + offset) bytes; records = a .records }
 
 -- K9 (store), E1
-abbrev pub storeBy : Areas → ℕ → List ℕ → Held → Result Outcome
-storeBy a offset bytes (held.Buffer h) = record { answer = Done; areas = storedAreas a offset bytes h }
+abbrev pub storeBy : Areas → ℕ → List ℕ → Held → Result Answer
+storeBy a offset bytes (held.Buffer h) = result done (storedAreas a offset bytes h)
 storeBy a offset bytes (held.Refused why) = refusedWith (Refused why) a
 
-unfoldable pub storeOf : Areas → ℕ → ℕ → List ℕ → Result Outcome
+unfoldable pub storeOf : Areas → ℕ → ℕ → List ℕ → Result Answer
 storeOf a address offset bytes = storeBy a offset bytes (storePlan a address offset (length bytes))
-
--- what is known of a plan: the bytes lie in a heap of h bytes
-abbrev pub StoreIf : ℕ → ℕ → ℕ → Held → Type 0
-StoreIf h offset len (held.Buffer p) = (clientAt p + offset + len ≤ h) × (clientAt p + p .sheet .chunk ≤ 65536)
-StoreIf h offset len (held.Refused why) = Unit {0}

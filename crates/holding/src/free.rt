@@ -1,14 +1,13 @@
 // Free: a plan that only reads, and a commit that cannot fail.
 ghost use mathlib.Core.Path.{_≡_};
-ghost use lib.ListN.{length};
-ghost use Rattle.opening.specs.Areas.{areas};
-ghost use Rattle.holding.specs.Holding.{HeldIf, Holds};
+ghost use Rattle.opening.specs.Areas.{lent, before, after, byLengths, result};
+ghost use Rattle.holding.specs.Holding.{Holds};
 ghost use Rattle.holding.specs.Free.{sameGrant, freePlan, freedAreas, freeOf};
 use crate::holding;
 use crate::holding::Held;
 use crate::holding::Holding;
 use area::record;
-use area::refusal::Outcome;
+use area::refusal::Answer;
 use area::refusal::Refusal;
 use chunks::chunk;
 use chunks::chunk::Grant;
@@ -33,8 +32,7 @@ fn same_grant(a: Grant, b: Grant) -> bool
 
 // The buffer that a free takes back, or why it does not.
 fn plan(sheet: &[u8], heap: &[u8], records: &[u8], address: u32, grant: Grant) -> Held
-    ensures { λ r. ⌜ r ≡ freePlan (areas (now (sheet .entry)) (now (heap .entry)) (now (records .entry))) address grant ⌝ }
-    ensures { λ r. ⌜ HeldIf (length (now (sheet .entry))) (length (now (heap .entry))) (length (now (records .entry))) r ⌝ }
+    ensures { λ r. ⌜ r ≡ freePlan (before sheet heap records) address grant ⌝ }
 {
     let h = holding::hold(sheet, heap, records, address);
     match h {
@@ -58,10 +56,8 @@ fn commit(
     uptime: u32,
     thread: u32,
 )
-    requires { ⌜ Holds (length (now sheet)) (length (now heap)) (length (now records)) p ⌝ }
-    ensures sheet { λ _. ⌜ now (sheet .exit) ≡ freedAreas (areas (now (sheet .entry)) (now (heap .entry)) (now (records .entry))) uptime thread p .sheet ⌝ }
-    ensures heap { λ _. ⌜ now (heap .exit) ≡ freedAreas (areas (now (sheet .entry)) (now (heap .entry)) (now (records .entry))) uptime thread p .heap ⌝ }
-    ensures records { λ _. ⌜ now (records .exit) ≡ freedAreas (areas (now (sheet .entry)) (now (heap .entry)) (now (records .entry))) uptime thread p .records ⌝ }
+    requires { ⌜ byLengths Holds (lent sheet heap records) p ⌝ }
+    ensures { λ _. ⌜ after sheet heap records ≡ freedAreas (before sheet heap records) uptime thread p ⌝ }
 {
     let g = p.sheet;
     let at = p.buffer * g.chunk;
@@ -69,7 +65,7 @@ fn commit(
     let slot = p.own * record::SIZE;
     let record_at = g.records + slot as u32;
     chunk::write_free(&mut heap[at..end], record_at);
-    word::write_u32(records, slot, g.head);
+    word::write_u32(records, slot + record::NEXT, g.head);
     record::stamp(records, p.own, uptime, thread);
     word::write_u32(sheet, sheet::HEAD, record_at);
 }
@@ -83,18 +79,16 @@ pub fn free(
     grant: Grant,
     uptime: u32,
     thread: u32,
-) -> Outcome
-    ensures answer { λ r. ⌜ r ≡ freeOf (areas (now (sheet .entry)) (now (heap .entry)) (now (records .entry))) address grant uptime thread .answer ⌝ }
-    ensures sheet { λ _. ⌜ now (sheet .exit) ≡ freeOf (areas (now (sheet .entry)) (now (heap .entry)) (now (records .entry))) address grant uptime thread .areas .sheet ⌝ }
-    ensures heap { λ _. ⌜ now (heap .exit) ≡ freeOf (areas (now (sheet .entry)) (now (heap .entry)) (now (records .entry))) address grant uptime thread .areas .heap ⌝ }
-    ensures records { λ _. ⌜ now (records .exit) ≡ freeOf (areas (now (sheet .entry)) (now (heap .entry)) (now (records .entry))) address grant uptime thread .areas .records ⌝ }
+) -> Answer
+    ensures { λ r. ⌜ result r (after sheet heap records)
+        ≡ freeOf (before sheet heap records) address grant uptime thread ⌝ }
 {
     let h = plan(sheet, heap, records, address, grant);
     match h {
-        Held::Refused(why) => Outcome::Refused(why),
+        Held::Refused(why) => Answer::Refused(why),
         Held::Buffer(p) => {
             commit(sheet, heap, records, p, uptime, thread);
-            Outcome::Done
+            Answer::Value(0)
         }
     }
 }

@@ -4,9 +4,9 @@ ghost use Prim.Native.Nat.{_*_, _<_};
 ghost use lib.ListN.{length};
 ghost use Rattle.tags.specs.Tag.{patternOf};
 ghost use Rattle.chunks.specs.Chunk.{ChunkLength, tagAt, grantSize};
-ghost use Rattle.opening.specs.Areas.{areas};
+ghost use Rattle.opening.specs.Areas.{before};
 ghost use Rattle.opening.specs.Sheet.{Open};
-ghost use Rattle.holding.specs.Holding.{heldAs, heldBy, heldChunk, heldAt, heldOf, HeldIf};
+ghost use Rattle.holding.specs.Holding.{heldAs, heldBy, heldChunk, heldAt, heldOf};
 use area::place;
 use area::place::Place;
 use area::record;
@@ -78,7 +78,6 @@ fn held_chunk(chunk: &[u8], records: &[u8], g: Sheet, address: u32, i: usize) ->
     requires { ⌜ Open (g .count * g .chunk) (length (now records)) g ⌝ }
     requires { ⌜ i < g .count ⌝ }
     ensures { λ r. ⌜ r ≡ heldChunk g (now (chunk .entry)) (now (records .entry)) address i ⌝ }
-    ensures { λ r. ⌜ HeldIf 48 (g .count * g .chunk) (length (now (records .entry))) r ⌝ }
 {
     let tag = chunk::read_tag(chunk);
     let p = place::find(g.records, record::SIZE, g.count, tag.t0);
@@ -97,7 +96,6 @@ fn held_chunk(chunk: &[u8], records: &[u8], g: Sheet, address: u32, i: usize) ->
 fn held_at(heap: &[u8], records: &[u8], g: Sheet, address: u32) -> Held
     requires { ⌜ Open (length (now heap)) (length (now records)) g ⌝ }
     ensures { λ r. ⌜ r ≡ heldAt g (now (heap .entry)) (now (records .entry)) address ⌝ }
-    ensures { λ r. ⌜ HeldIf 48 (length (now (heap .entry))) (length (now (records .entry))) r ⌝ }
 {
     let p = place::find(g.heap, g.chunk, g.count, address);
     match p {
@@ -112,8 +110,7 @@ fn held_at(heap: &[u8], records: &[u8], g: Sheet, address: u32) -> Held
 
 // The buffer at an address of an image: the tests that free, store and show have alike.
 pub(crate) fn hold(sheet: &[u8], heap: &[u8], records: &[u8], address: u32) -> Held
-    ensures { λ r. ⌜ r ≡ heldOf (areas (now (sheet .entry)) (now (heap .entry)) (now (records .entry))) address ⌝ }
-    ensures { λ r. ⌜ HeldIf (length (now (sheet .entry))) (length (now (heap .entry))) (length (now (records .entry))) r ⌝ }
+    ensures { λ r. ⌜ r ≡ heldOf (before sheet heap records) address ⌝ }
 {
     let opened = sheet::open(sheet, heap.len(), records.len());
     match opened {

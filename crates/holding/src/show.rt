@@ -1,9 +1,7 @@
 // Show: the client's own bytes, as a part of the heap.
 ghost use mathlib.Core.Path.{_≡_};
-ghost use lib.ListN.{length};
-ghost use Rattle.opening.specs.Areas.{areas};
-ghost use Rattle.opening.specs.Sheet.{sheetOf};
-ghost use Rattle.holding.specs.Show.{shownOf, ShownIf, shownPart, ShownPlace, StartsAt};
+ghost use Rattle.opening.specs.Areas.{before};
+ghost use Rattle.holding.specs.Show.{shownOf, shownPart, ShownPlace};
 use crate::holding;
 use crate::holding::Held;
 use area::refusal::Refusal;
@@ -16,9 +14,7 @@ pub enum Shown {
 
 // Finds the client's bytes of the buffer at an address.
 pub fn find_client(sheet: &[u8], heap: &[u8], records: &[u8], address: u32) -> Shown
-    ensures answer { λ r. ⌜ r ≡ shownOf (areas (now (sheet .entry)) (now (heap .entry)) (now (records .entry))) address ⌝ }
-    ensures inside { λ r. ⌜ ShownIf (length (now (heap .entry))) r ⌝ }
-    ensures starts { λ r. ⌜ StartsAt (sheetOf (now (sheet .entry)) .heap) address r ⌝ }
+    ensures { λ r. ⌜ r ≡ shownOf (before sheet heap records) address ⌝ }
 {
     let h = holding::hold(sheet, heap, records, address);
     match h {
@@ -34,8 +30,8 @@ pub fn find_client(sheet: &[u8], heap: &[u8], records: &[u8], address: u32) -> S
 // The client's bytes themselves; empty where they are refused.
 pub fn show<'a>(sheet: &[u8], heap: &'a [u8], records: &[u8], address: u32) -> &'a [u8]
     ensures bytes { λ r. ⌜ now r
-        ≡ shownPart (now (heap .entry)) (shownOf (areas (now (sheet .entry)) (now (heap .entry)) (now (records .entry))) address) ⌝ }
-    ensures place { λ r. ⌜ ShownPlace (heap .entry) (shownOf (areas (now (sheet .entry)) (now (heap .entry)) (now (records .entry))) address) r ⌝ }
+        ≡ shownPart (now (heap .entry)) (shownOf (before sheet heap records) address) ⌝ }
+    ensures place { λ r. ⌜ ShownPlace (heap .entry) (shownOf (before sheet heap records) address) r ⌝ }
 {
     let c = find_client(sheet, heap, records, address);
     match c {

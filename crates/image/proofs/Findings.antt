@@ -6,7 +6,7 @@ use Prim.Native.Nat.{ℕ, zero, suc, _+_, _*_, _≤_, _<_}
 use native.Mathlib.Nat.{le-step}
 use native.Mathlib.Omega.{arith}
 use borrow.Author.Tests.{ne-eqb, le-leb}
-use lib.Dec.{eqb}
+use lib.Dec.{eqb, leb}
 use native.Mathlib.Decide.{ℕ-discrete}
 use lib.ListN.{length, getD, set, drop, length-set, List·getD-append}
 use lib.Seq.{sets, getD-set-same, getD-set-other}
@@ -16,14 +16,21 @@ use Rattle.verdicts.specs.Walk.{marksOf, mark}
 use Rattle.verdicts.specs.Chain.{Chain, occ}
 use Rattle.verdicts.specs.Pairing.{ofMark, OwnIf, Paired}
 use Rattle.verdicts.specs.Judge.{judged, marked, metBy, imageChain, verdictOf}
-use Rattle.opening.specs.Sheet.{Lawful, Open, openedOf}
-use Rattle.image.specs.Inspect.{findingOf, filled, inspectOf, Inspection, foundBy, started, Ready, Begins, numbersOf, rowsOf, tableOf, EndingIf, Small}
+use Rattle.opening.specs.Sheet.{Lawful, Open, openedOf, openedWithLog}
+use Rattle.image.specs.Inspect.{findingOf, filled, inspectOf, Inspection, foundBy, started, Ready, Begins, numbersOf, rowsOf, tableOf, surveyed, Surveying, surveyOf}
 use Rattle.opening.specs.declared.sheet.Sheet.{Sheet}
 use Rattle.verdicts.specs.declared.chain.Ending.{Ending}
 use Rattle.verdicts.specs.declared.chain.Ending.the-variants as ending
 use Rattle.opening.specs.declared.sheet.Opened.the-variants.{Image}
 use Rattle.area.specs.declared.refusal.Refusal.{Refusal}
-use Rattle.image.specs.declared.inspect.Inspected.the-variants.{Refused}
+use Rattle.area.specs.declared.refusal.Answer.the-variants.{Refused}
+use Rattle.area.specs.Filling.{filling}
+use Rattle.opening.specs.Areas.{Areas}
+use Rattle.opening.proofs.Opens.{opened-known, logged-known, by-opened}
+use Rattle.words.proofs.Tests.{by-test}
+use Rattle.image.specs.Numbers.{EndingIf}
+use Rattle.image.specs.declared.inspect.Overview.{Overview}
+use Rattle.image.specs.declared.inspect.Surveyed.the-variants as surveys
 use Rattle.image.specs.declared.inspect.Finding.{Finding}
 use Rattle.image.specs.declared.inspect.Start.{Start}
 use Rattle.image.specs.declared.inspect.Begun.{Begun}
@@ -109,34 +116,37 @@ pub ready : (h : ℕ) (g : Sheet) (records pairs : List ℕ) → Open h (length 
 ready h g records pairs o p = record { law = o .law; long = o .heapLong; all = refl; paired = paired-in records (g .heap) (g .chunk) (g .count) pairs p }
 
 -- an inspection that is refused
-pub begins-refused : (s heap records : List ℕ) (m : ℕ) (b : Begun) (why : Refusal) → b .start .count ≡ 0 → b .start .answer ≡ Refused why
-    → ((rows : List Finding) → length rows ≡ m → inspectOf s heap records rows ≡ record { answer = Refused why; rows = rows }) → Begins s heap records m b
-begins-refused s heap records m b why c a h = record {
+pub begins-refused : (a : Areas) (m : ℕ) (b : Begun) (why : Refusal) → b .start .count ≡ 0 → b .start .answer ≡ Refused why
+    → ((rows : List Finding) → length rows ≡ m → inspectOf a rows ≡ filling (Refused why) rows) → Begins a m b
+begins-refused a m b why c r h = record {
   within = omega (arith, c);
   ready = λ l. absurd (omega (arith, l, c));
-  tells = λ rows l. h rows l ∙ rw (a, c) refl;
+  tells = λ rows l. h rows l ∙ rw (r, c) refl;
 }
 
 -- an inspection of an open image
-pub begins-image : (s heap records : List ℕ) (m : ℕ) (g : Sheet) (b : Begun) → openedOf s (length heap) (length records) ≡ Image g → Open (length heap) (length records) g
-    → g .count ≤ m → b .start ≡ started g records → Paired records (g .heap) (g .chunk) (g .count) (b .pairs) → b .marks ≡ marksOf 512 (imageChain g records .met)
-    → Begins s heap records m b
+pub begins-image : (a : Areas) (m : ℕ) (g : Sheet) (b : Begun) → openedOf (a .sheet) (length (a .heap)) (length (a .records)) ≡ Image g
+    → g .count ≤ m → b .start ≡ started g (a .records) → Paired (a .records) (g .heap) (g .chunk) (g .count) (b .pairs)
+    → b .marks ≡ marksOf 512 (imageChain g (a .records) .met) → Begins a m b
 unfolding inspectOf
-begins-image s heap records m g b opened o small st p e = record {
+begins-image a m g b opened small st p e = record {
   within = subst (λ (x : Start). x .count ≤ m) (sym st) small;
-  ready = λ _. subst (λ (x : Start). Ready (length heap) x (b .pairs)) (sym st) (ready (length heap) g records (b .pairs) o p);
+  ready = λ _. subst (λ (x : Start). Ready (length (a .heap)) x (b .pairs)) (sym st) (ready (length (a .heap)) g (a .records) (b .pairs) o p);
   tells = λ rows l. begun rows (subst (λ (k : ℕ). g .count ≤ k) (sym l) small);
 }
   where
-    shown : List Finding → Start → Inspection
-    shown rows x = record { answer = x .answer; rows = filled (foundBy heap x (b .pairs) (b .marks)) rows (x .count) }
+    o : Open (length (a .heap)) (length (a .records)) g
+    o = opened-known _ _ _ _ opened .opens
 
-    begun : (rows : List Finding) → g .count ≤ length rows → inspectOf s heap records rows ≡ shown rows (b .start)
+    shown : List Finding → Start → Inspection
+    shown rows x = filling (x .answer) (filled (foundBy (a .heap) x (b .pairs) (b .marks)) rows (x .count))
+
+    begun : (rows : List Finding) → g .count ≤ length rows → inspectOf a rows ≡ shown rows (b .start)
     begun rows l =
         rw (opened, le-leb (g .count) (length rows) l)
-        (ap (λ (r : List Finding). record { answer = started g records .answer; rows = r })
-        (filled-same (findingOf g heap records) (foundBy heap (started g records) (b .pairs) (b .marks)) rows (g .count)
-        (λ i h. sym (found-is g heap records (b .pairs) (b .marks) (o .law .sizes .few) p e i h)))
+        (ap (filling (started g (a .records) .answer))
+        (filled-same (findingOf g (a .heap) (a .records)) (foundBy (a .heap) (started g (a .records)) (b .pairs) (b .marks)) rows (g .count)
+        (λ i h. sym (found-is g (a .heap) (a .records) (b .pairs) (b .marks) (o .law .sizes .few) p e i h)))
         ∙ ap (shown rows) (sym st))
 
 -- ---- the numbers of a survey are small
@@ -146,12 +156,23 @@ ending-small g records ending.End q few = tt
 ending-small g records ending.Broken q few = tt
 ending-small g records (ending.Again i) q few = let h = chain-again-below records (g .records) (g .count) (g .head) i q in omega arith
 
-pub survey-small : (g : Sheet) (records : List ℕ) (met : ℕ) (e : Ending) → Lawful g → met ≡ length (imageChain g records .met) → e ≡ imageChain g records .ending
-    → Small (record { count = g .count; met = met; ending = e })
-survey-small g records met e law m q =
+pub chain-small : (g : Sheet) (records : List ℕ) → Lawful g → (length (imageChain g records .met) ≤ 512) × EndingIf 512 (imageChain g records .ending)
+chain-small g records law =
     let few = law .sizes .few in
     let short = chain-short records (g .records) (g .count) (g .head) in
-    record { some = law .sizes .some; few = few; met = omega arith; again = ending-small g records e (sym q) few }
+    (omega arith, ending-small g records (imageChain g records .ending) refl few)
+
+-- a survey that is not refused counts few buffers
+pub survey-few : (a : Areas) (l : ℕ) (rows : List ℕ) (v : Overview) → surveyOf a l rows .answer ≡ surveys.Image v → v .count ≤ 512
+unfolding surveyOf
+survey-few a l rows v =
+    by-opened (λ (x : Surveying). x .answer ≡ surveys.Image v → v .count ≤ 512) (openedWithLog (a .sheet) (length (a .heap)) (length (a .records)) l)
+    (λ g e.
+    let o = logged-known _ _ _ _ _ e in
+    by-test (λ (x : Surveying). x .answer ≡ surveys.Image v → v .count ≤ 512) (leb (g .count * 3) (length rows))
+    (λ t q. let z : surveyed g (a .records) ≡ v = cc in subst (λ (x : Overview). x .count ≤ 512) z (o .0 .opens .law .sizes .few))
+    (λ t q. absurd (let z : _≡_ {A = ℕ} 0 1 = cc in omega arith)))
+    (λ why q. absurd (let z : _≡_ {A = ℕ} 0 1 = cc in omega arith))
 
 -- ---- the numbers of a row
 

@@ -1,7 +1,7 @@
 -- What the report says, as numbers: three for each buffer and three for the chain. Assumes nothing.
 use mathlib.Core.Bool.{_&&_}
 use mathlib.Core.List.{List, [], _∷_}
-use Prim.Native.Nat.{ℕ, _*_}
+use Prim.Native.Nat.{ℕ, _*_, _<_}
 use lib.Dec.{leb}
 use lib.ListN.{length}
 use lib.Seq.{sets}
@@ -14,8 +14,9 @@ use Rattle.verdicts.specs.Judge.{imageChain}
 use Rattle.verdicts.specs.declared.chain.Ending.{Ending}
 use Rattle.verdicts.specs.declared.chain.Ending.the-variants.{End, Broken, Again}
 use Rattle.image.specs.Inspect.{tableOf}
-use Rattle.image.specs.declared.inspect.Inspected.{Inspected}
-use Rattle.image.specs.declared.inspect.Inspected.the-variants.{Count, Refused}
+use Rattle.area.specs.declared.refusal.Answer.{Answer}
+use Rattle.area.specs.declared.refusal.Answer.the-variants.{Value, Refused}
+use Rattle.opening.specs.Areas.{Areas}
 
 -- K14 (how it ends)
 abbrev pub endingNumber : Ending → ℕ
@@ -29,6 +30,12 @@ endingValue End = 0
 endingValue Broken = 0
 endingValue (Again i) = i
 
+-- the record that a chain came back to is one of n
+abbrev pub EndingIf : ℕ → Ending → Type 0
+EndingIf n End = Unit {0}
+EndingIf n Broken = Unit {0}
+EndingIf n (Again i) = i < n
+
 -- K14 (the chain as numbers)
 abbrev pub chainNumbers : ℕ → Ending → List ℕ
 chainNumbers met e = met ∷ endingNumber e ∷ endingValue e ∷ []
@@ -38,20 +45,23 @@ abbrev pub chainOfImage : Sheet → List ℕ → List ℕ
 chainOfImage g records = chainNumbers (length (imageChain g records .met)) (imageChain g records .ending)
 
 -- what such a survey answers, and the two lent rows afterwards
-pub record Numbered : Type 0 where
-  pub answer : Inspected
+pub record Numbered (A : Type 0) : Type 0 where
+  pub answer : A
   pub rows : List ℕ
   pub chain : List ℕ
 
--- a refused survey leaves both rows
-abbrev pub unnumbered : List ℕ → List ℕ → Refusal → Numbered
-unnumbered rows chain why = record { answer = Refused why; rows = rows; chain = chain }
+abbrev pub numbering : {A : Type 0} → A → List ℕ → List ℕ → Numbered A
+numbering answer rows chain = record { answer = answer; rows = rows; chain = chain }
+
+-- E1 (a refused survey leaves both rows)
+abbrev pub unnumbered : List ℕ → List ℕ → Refusal → Numbered Answer
+unnumbered rows chain why = numbering (Refused why) rows chain
 
 -- E8 (X11, after E3), F5: the need is three numbers for each buffer, and three for the chain
-unfoldable pub surveyNumbersOf : List ℕ → List ℕ → List ℕ → ℕ → List ℕ → List ℕ → Numbered
-surveyNumbersOf s heap records l rows chain =
-    onOpened (openedWithLog s (length heap) (length records) l)
+unfoldable pub surveyNumbersOf : Areas → ℕ → List ℕ → List ℕ → Numbered Answer
+surveyNumbersOf a l rows chain =
+    onOpened (openedWithLog (a .sheet) (length (a .heap)) (length (a .records)) l)
     (λ g. pick (leb (g .count * 3) (length rows) && leb 3 (length chain))
-    (record { answer = Count (g .count); rows = sets rows 0 (tableOf g heap records); chain = sets chain 0 (chainOfImage g records) })
+    (numbering (Value (g .count)) (sets rows 0 (tableOf g (a .heap) (a .records))) (sets chain 0 (chainOfImage g (a .records))))
     (unnumbered rows chain ShortOutput))
     (unnumbered rows chain)

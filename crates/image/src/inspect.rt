@@ -4,11 +4,14 @@ ghost use mathlib.Core.Path.{_≡_};
 ghost use Prim.Native.Nat.{_+_, _*_, _≤_, _<_};
 ghost use lib.ListN.{length};
 ghost use lib.Seq.{sets};
+ghost use Rattle.area.specs.Filling.{filling};
+ghost use Rattle.opening.specs.Areas.{before};
 ghost use Rattle.opening.specs.Sheet.{Open};
 ghost use Rattle.verdicts.specs.Pairing.{Paired};
 ghost use Rattle.verdicts.specs.Walk.{marksOf};
 ghost use Rattle.verdicts.specs.Judge.{imageChain};
-ghost use Rattle.image.specs.Inspect.{inspectOf, foundBy, started, Ready, Begins, numbersOf, rowsOf, tableOf, tabulateOf, InspectedIf, surveyOf, SurveyedIf};
+ghost use Rattle.image.specs.Inspect.{inspectOf, foundBy, started, Ready, Begins, numbersOf, rowsOf, tableOf, tabulateOf, surveyOf};
+use area::refusal::Answer;
 use area::refusal::Refusal;
 use opening::sheet;
 use opening::sheet::Opened;
@@ -19,12 +22,6 @@ use verdicts::chain;
 use verdicts::chain::Ending;
 use verdicts::judge;
 use verdicts::pairing;
-
-// How many buffers were inspected, or why none was.
-pub enum Inspected {
-    Count(usize),
-    Refused(Refusal),
-}
 
 // What is found of a buffer: its index, and its verdict, with its size or offset.
 pub struct Finding {
@@ -39,7 +36,7 @@ pub struct Start {
     pub count: usize,
     pub met: usize,
     pub ending: Ending,
-    pub answer: Inspected,
+    pub answer: Answer,
 }
 
 // That, with each buffer's own record and the records that the chain met.
@@ -64,7 +61,7 @@ pub enum Surveyed {
 
 // An inspection that is refused.
 fn refuse(why: Refusal) -> Begun
-    ensures { λ r. ⌜ (r .start .count ≡ 0) × (r .start .answer ≡ Inspected.Refused why) ⌝ }
+    ensures { λ r. ⌜ (r .start .count ≡ 0) × (r .start .answer ≡ Answer.Refused why) ⌝ }
 {
     let sheet = Sheet {
         cache: 0,
@@ -81,7 +78,7 @@ fn refuse(why: Refusal) -> Begun
         count: 0,
         met: 0,
         ending: Ending::End,
-        answer: Inspected::Refused(why),
+        answer: Answer::Refused(why),
     };
     Begun {
         start,
@@ -108,7 +105,7 @@ fn note(records: &[u8], g: Sheet) -> Begun
         count: g.count,
         met,
         ending,
-        answer: Inspected::Count(g.count),
+        answer: Answer::Value(g.count as u32),
     };
     Begun {
         start,
@@ -119,7 +116,7 @@ fn note(records: &[u8], g: Sheet) -> Begun
 
 // Opens an image, and readies all that its buffers are judged by, for a lent row of so many findings.
 fn begin(sheet: &[u8], heap: &[u8], records: &[u8], rows: usize) -> Begun
-    ensures { λ r. ⌜ Begins (now (sheet .entry)) (now (heap .entry)) (now (records .entry)) rows r ⌝ }
+    ensures { λ r. ⌜ Begins (before sheet heap records) rows r ⌝ }
 {
     let opened = sheet::open(sheet, heap.len(), records.len());
     match opened {
@@ -153,9 +150,8 @@ fn find<'a>(
 }
 
 // Fills a lent row of findings, one for each buffer, or refuses and leaves it as it was. Rows past the last buffer stay.
-pub fn inspect(sheet: &[u8], heap: &[u8], records: &[u8], rows: &mut [Finding]) -> Inspected
-    ensures answer { λ r. ⌜ r ≡ inspectOf (now (sheet .entry)) (now (heap .entry)) (now (records .entry)) (now (rows .entry)) .answer ⌝ }
-    ensures rows { λ _. ⌜ now (rows .exit) ≡ inspectOf (now (sheet .entry)) (now (heap .entry)) (now (records .entry)) (now (rows .entry)) .rows ⌝ }
+pub fn inspect(sheet: &[u8], heap: &[u8], records: &[u8], rows: &mut [Finding]) -> Answer
+    ensures { λ r. ⌜ filling r (now (rows .exit)) ≡ inspectOf (before sheet heap records) (now (rows .entry)) ⌝ }
 {
     let begun = begin(sheet, heap, records, rows.len());
     let start = begun.start;
@@ -221,32 +217,27 @@ pub(crate) fn survey_open(heap: &[u8], records: &[u8], g: Sheet, rows: &mut [u32
 }
 
 // Fills a lent row of numbers, three for each buffer, or refuses and leaves it as it was.
-pub fn tabulate(sheet: &[u8], heap: &[u8], records: &[u8], rows: &mut [u32]) -> Inspected
-    ensures answer { λ r. ⌜ r ≡ tabulateOf (now (sheet .entry)) (now (heap .entry)) (now (records .entry)) (now (rows .entry)) .answer ⌝ }
-    ensures rows { λ _. ⌜ now (rows .exit) ≡ tabulateOf (now (sheet .entry)) (now (heap .entry)) (now (records .entry)) (now (rows .entry)) .rows ⌝ }
-    ensures small { λ r. ⌜ InspectedIf r ⌝ }
+pub fn tabulate(sheet: &[u8], heap: &[u8], records: &[u8], rows: &mut [u32]) -> Answer
+    ensures { λ r. ⌜ filling r (now (rows .exit)) ≡ tabulateOf (before sheet heap records) (now (rows .entry)) ⌝ }
 {
     let opened = sheet::open(sheet, heap.len(), records.len());
     match opened {
-        Opened::Refused(why) => Inspected::Refused(why),
+        Opened::Refused(why) => Answer::Refused(why),
         Opened::Image(g) => {
             let n = g.count;
             if rows.len() < n * 3 {
-                return Inspected::Refused(Refusal::ShortOutput);
+                return Answer::Refused(Refusal::ShortOutput);
             }
             survey_open(heap, records, g, rows);
-            Inspected::Count(n)
+            Answer::Value(n as u32)
         }
     }
 }
 
 // Fills a lent row of numbers as `tabulate` does, of an image with a log, and tells of the chain too.
 pub fn survey(sheet: &[u8], heap: &[u8], records: &[u8], log: &[u8], rows: &mut [u32]) -> Surveyed
-    ensures answer { λ r. ⌜ r
-        ≡ surveyOf (now (sheet .entry)) (now (heap .entry)) (now (records .entry)) (length (now (log .entry))) (now (rows .entry)) .answer ⌝ }
-    ensures rows { λ _. ⌜ now (rows .exit)
-        ≡ surveyOf (now (sheet .entry)) (now (heap .entry)) (now (records .entry)) (length (now (log .entry))) (now (rows .entry)) .rows ⌝ }
-    ensures small { λ r. ⌜ SurveyedIf r ⌝ }
+    ensures { λ r. ⌜ filling r (now (rows .exit))
+        ≡ surveyOf (before sheet heap records) (length (now (log .entry))) (now (rows .entry)) ⌝ }
 {
     let opened = sheet::open_with_log(sheet, heap.len(), records.len(), log.len());
     match opened {

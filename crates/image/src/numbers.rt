@@ -3,10 +3,10 @@ ghost use mathlib.Core.Path.{_≡_};
 ghost use Prim.Native.Nat.{_≤_};
 ghost use lib.ListN.{length};
 ghost use lib.Seq.{sets};
-ghost use Rattle.image.specs.Inspect.{InspectedIf, EndingIf};
-ghost use Rattle.image.specs.Numbers.{endingNumber, endingValue, chainNumbers, surveyNumbersOf};
+ghost use Rattle.opening.specs.Areas.{before};
+ghost use Rattle.image.specs.Numbers.{EndingIf, endingNumber, endingValue, chainNumbers, numbering, surveyNumbersOf};
 use crate::inspect;
-use crate::inspect::Inspected;
+use area::refusal::Answer;
 use area::refusal::Refusal;
 use opening::sheet;
 use opening::sheet::Opened;
@@ -56,31 +56,26 @@ pub fn survey_numbers(
     log: &[u8],
     rows: &mut [u32],
     chain: &mut [u32],
-) -> Inspected
-    ensures answer { λ r. ⌜ r
-        ≡ surveyNumbersOf (now (sheet .entry)) (now (heap .entry)) (now (records .entry)) (length (now (log .entry))) (now (rows .entry)) (now (chain .entry)) .answer ⌝ }
-    ensures rows { λ _. ⌜ now (rows .exit)
-        ≡ surveyNumbersOf (now (sheet .entry)) (now (heap .entry)) (now (records .entry)) (length (now (log .entry))) (now (rows .entry)) (now (chain .entry)) .rows ⌝ }
-    ensures chain { λ _. ⌜ now (chain .exit)
-        ≡ surveyNumbersOf (now (sheet .entry)) (now (heap .entry)) (now (records .entry)) (length (now (log .entry))) (now (rows .entry)) (now (chain .entry)) .chain ⌝ }
-    ensures small { λ r. ⌜ InspectedIf r ⌝ }
+) -> Answer
+    ensures { λ r. ⌜ numbering r (now (rows .exit)) (now (chain .exit))
+        ≡ surveyNumbersOf (before sheet heap records) (length (now (log .entry))) (now (rows .entry)) (now (chain .entry)) ⌝ }
 {
     let opened = sheet::open_with_log(sheet, heap.len(), records.len(), log.len());
     match opened {
-        Opened::Refused(why) => Inspected::Refused(why),
+        Opened::Refused(why) => Answer::Refused(why),
         Opened::Image(g) => {
             let n = g.count;
             if rows.len() < n * 3 {
-                return Inspected::Refused(Refusal::ShortOutput);
+                return Answer::Refused(Refusal::ShortOutput);
             }
             if chain.len() < 3 {
-                return Inspected::Refused(Refusal::ShortOutput);
+                return Answer::Refused(Refusal::ShortOutput);
             }
             let start = inspect::survey_open(heap, records, g, rows);
             let met = start.met;
             let ending = start.ending;
             put_chain(chain, met, ending);
-            Inspected::Count(n)
+            Answer::Value(n as u32)
         }
     }
 }

@@ -15,12 +15,17 @@ use Rattle.chunks.specs.Chunk.{freeChunk}
 use Rattle.chunks.proofs.Chunks.{length-freeChunk}
 use Rattle.opening.specs.Areas.{bufferAddress, recordAddress}
 use Rattle.area.specs.Record.{recordSize}
-use Rattle.opening.specs.Sheet.{Lawful, OpenedIf}
+use Rattle.opening.specs.Sheet.{Lawful, numbered}
 use Rattle.opening.specs.declared.sheet.Sheet.{Sheet}
-use Rattle.opening.specs.declared.sheet.Opened.{Opened}
 use Rattle.opening.specs.declared.sheet.Opened.the-variants as opened
-use Rattle.area.specs.declared.refusal.Outcome.the-variants.{Refused}
-use Rattle.layout.specs.Layout.{linkTo, field, sheetBytes, recordBytes, PlannedIf}
+use Rattle.area.specs.declared.refusal.Answer.the-variants.{Refused}
+use Rattle.layout.specs.Layout.{linkTo, field, sheetBytes, recordBytes, layOutPlan, Planned}
+use Rattle.opening.proofs.Opens.{numbered-known}
+use Rattle.area.specs.declared.refusal.Refusal.the-variants.{BadSheet}
+use Rattle.words.specs.Run.{pick}
+use borrow.Author.Tests.{eqb-true}
+use lib.Dec.{eqb}
+use mathlib.Core.Bool.{Bool, true, false}
 
 -- ---- the sheet
 
@@ -103,7 +108,11 @@ module _ (g : Sheet) where
 
 -- ---- the plan
 
--- numbers that pass are planned
-pub planned-if : (s h r : ℕ) (o : Opened) → s ≡ 48 → OpenedIf h r o → PlannedIf s h r o
-planned-if s h r (opened.Image g) e k = record { long = e; opens = k }
-planned-if s h r (opened.Refused why) e k = tt
+-- what is known of numbers that pass
+pub planned-known : (g : Sheet) (s h r : ℕ) (o : Sheet) → layOutPlan g s h r ≡ opened.Image o → Planned s h r o
+unfolding layOutPlan
+planned-known g s h r o e = go (eqb s 48) refl e
+  where
+    go : (b : Bool) → eqb s 48 ≡ b → pick b (numbered g h r) (opened.Refused BadSheet) ≡ opened.Image o → Planned s h r o
+    go true q f = record { long = eqb-true s 48 q; opens = numbered-known g h r o f .1 }
+    go false q f = absurd (let z : _≡_ {A = ℕ} 0 1 = cc in omega arith)

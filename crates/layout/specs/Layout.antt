@@ -7,14 +7,15 @@ use lib.ListN.{length, replicate}
 use Rattle.words.specs.Word.{flat, bytesOf}
 use Rattle.words.specs.Run.{pick}
 use Rattle.chunks.specs.Chunk.{freeChunk}
-use Rattle.opening.specs.Areas.{Areas, Result, refusedWith, bufferAddress, recordAddress}
+use Rattle.opening.specs.Areas.{Areas, Result, result, refusedWith, bufferAddress, recordAddress}
 use Rattle.opening.specs.Sheet.{numbered, onOpened, Open}
 use Rattle.opening.specs.declared.sheet.Sheet.{Sheet}
 use Rattle.opening.specs.declared.sheet.Opened.{Opened}
 use Rattle.opening.specs.declared.sheet.Opened.the-variants as opened
 use Rattle.area.specs.declared.refusal.Refusal.the-variants.{BadSheet}
-use Rattle.area.specs.declared.refusal.Outcome.{Outcome}
-use Rattle.area.specs.declared.refusal.Outcome.the-variants.{Done, Refused}
+use Rattle.area.specs.declared.refusal.Answer.{Answer}
+use Rattle.area.specs.declared.refusal.Answer.the-variants.{Refused}
+use Rattle.area.specs.Refusal.{done}
 
 -- K4 (the next words): the word that leads to record i, its address, or 0 past the last
 unfoldable pub linkTo : Sheet → ℕ → ℕ
@@ -66,17 +67,13 @@ unfoldable pub layOutPlan : Sheet → ℕ → ℕ → ℕ → Opened
 layOutPlan g s h r = pick (eqb s 48) (numbered g h r) (opened.Refused BadSheet)
 
 -- K2 to K4, E1, E4 (lay out)
-unfoldable pub layOutOf : Areas → ℕ → ℕ → ℕ → ℕ → ℕ → Result Outcome
+unfoldable pub layOutOf : Areas → ℕ → ℕ → ℕ → ℕ → ℕ → Result Answer
 layOutOf a cache heap records size n =
     onOpened (layOutPlan (laidSheet cache heap records size n) (length (a .sheet)) (length (a .heap)) (length (a .records)))
-    (λ g. record { answer = Done; areas = laidAreas g })
+    (λ g. result done (laidAreas g))
     (λ why. refusedWith (Refused why) a)
 
 -- what a plan promises to who carries it out
 pub record Planned (s h r : ℕ) (g : Sheet) : Type 0 where
   pub long : s ≡ 48
   pub opens : Open h r g
-
-abbrev pub PlannedIf : ℕ → ℕ → ℕ → Opened → Type 0
-PlannedIf s h r (opened.Image g) = Planned s h r g
-PlannedIf s h r (opened.Refused why) = Unit {0}

@@ -4,8 +4,8 @@
 // from record 0 on in order; any other request is refused, and every lent byte is as before.
 ghost use mathlib.Core.Path.{_≡_};
 ghost use Rattle.opening.specs.Areas.{lent, before, after, byLengths, result};
-ghost use Rattle.layout.specs.Layout.{laidSheet, laidAreas, layOutOf, layOutPlan, PlannedIf, Planned};
-use area::refusal::Outcome;
+ghost use Rattle.layout.specs.Layout.{laidSheet, laidAreas, layOutOf, layOutPlan, Planned};
+use area::refusal::Answer;
 use area::refusal::Refusal;
 use opening::sheet;
 use opening::sheet::Opened;
@@ -36,7 +36,6 @@ fn sheet_for(cache: u32, heap_base: u32, record_base: u32, size: u32, count: u32
 // Whether areas of these lengths can be laid out with these numbers: the tests 1, 2 and 3.
 fn plan(g: Sheet, sheet_len: usize, heap_len: usize, records_len: usize) -> Opened
     ensures { λ r. ⌜ r ≡ layOutPlan g «sheet_len» «heap_len» «records_len» ⌝ }
-    ensures { λ r. ⌜ PlannedIf «sheet_len» «heap_len» «records_len» r ⌝ }
 {
     if sheet_len != sheet::LENGTH {
         return Opened::Refused(Refusal::BadSheet);
@@ -64,17 +63,17 @@ pub fn lay_out(
     sheet: &mut [u8],
     heap: &mut [u8],
     records: &mut [u8],
-) -> Outcome
+) -> Answer
     ensures { λ r. ⌜ result r (after sheet heap records)
         ≡ layOutOf (before sheet heap records) cache «heap_base» «record_base» size count ⌝ }
 {
     let asked = sheet_for(cache, heap_base, record_base, size, count);
     let planned = plan(asked, sheet.len(), heap.len(), records.len());
     match planned {
-        Opened::Refused(why) => Outcome::Refused(why),
+        Opened::Refused(why) => Answer::Refused(why),
         Opened::Image(g) => {
             commit(sheet, heap, records, g);
-            Outcome::Done
+            Answer::Value(0)
         }
     }
 }

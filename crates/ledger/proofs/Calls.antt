@@ -26,9 +26,9 @@ use Rattle.holding.specs.Show.{shownOf}
 use Rattle.opening.specs.declared.sheet.Sheet.{Sheet}
 use Rattle.area.specs.declared.place.Place.the-variants as place
 use Rattle.area.specs.declared.refusal.Refusal.the-variants.{NoSuchBuffer, NoRoom, BadSize, NotAllocated, OtherGrant, PastClient}
-use Rattle.area.specs.declared.refusal.Outcome.the-variants as outcome
+use Rattle.area.specs.Refusal.{done}
 use Rattle.allocation.specs.declared.allocate.Spot.{Spot}
-use Rattle.allocation.specs.declared.allocate.Allocated.the-variants as allocated
+use Rattle.area.specs.declared.refusal.Answer.the-variants as answer
 use Rattle.holding.specs.declared.holding.Holding.{Holding}
 use Rattle.holding.specs.declared.holding.Held.the-variants as held
 use Rattle.holding.specs.declared.show.Shown.the-variants as shown
@@ -111,22 +111,22 @@ module _ (g : Sheet) (laid : Laid g) where
     -- ---- free
 
     pub free-done : (j : ℕ) → j < g .count → (o : Loan) → out (bufferAddress g j) ≡ some o → (q : Grant) (uptime thread : ℕ) → sameGrant (o .grant) q ≡ true
-        → freeOf a (bufferAddress g j) q uptime thread ≡ record { answer = outcome.Done; areas = freedAreas a uptime thread (hold head j (o .grant)) }
+        → freeOf a (bufferAddress g j) q uptime thread ≡ record { answer = done; areas = freedAreas a uptime thread (hold head j (o .grant)) }
     unfolding freeOf freePlan
     free-done j h o e q uptime thread s = rw (held-out j h o e, s)
 
     pub free-other : (j : ℕ) → j < g .count → (o : Loan) → out (bufferAddress g j) ≡ some o → (q : Grant) (uptime thread : ℕ) → sameGrant (o .grant) q ≡ false
-        → freeOf a (bufferAddress g j) q uptime thread ≡ refusedWith (outcome.Refused OtherGrant) a
+        → freeOf a (bufferAddress g j) q uptime thread ≡ refusedWith (answer.Refused OtherGrant) a
     unfolding freeOf freePlan
     free-other j h o e q uptime thread s = rw (held-out j h o e, s)
 
     pub free-in : (j : ℕ) → j < g .count → out (bufferAddress g j) ≡ none → (q : Grant) (uptime thread : ℕ)
-        → freeOf a (bufferAddress g j) q uptime thread ≡ refusedWith (outcome.Refused NotAllocated) a
+        → freeOf a (bufferAddress g j) q uptime thread ≡ refusedWith (answer.Refused NotAllocated) a
     unfolding freeOf freePlan
     free-in j h e q uptime thread = rw (held-in j h e)
 
     pub free-stray : (x : ℕ) → placeOf (g .heap) (g .chunk) (g .count) x ≡ place.Nowhere → (q : Grant) (uptime thread : ℕ)
-        → freeOf a x q uptime thread ≡ refusedWith (outcome.Refused NoSuchBuffer) a
+        → freeOf a x q uptime thread ≡ refusedWith (answer.Refused NoSuchBuffer) a
     unfolding freeOf freePlan
     free-stray x e q uptime thread = rw (held-stray x e)
 
@@ -134,23 +134,23 @@ module _ (g : Sheet) (laid : Laid g) where
 
     pub store-done : (j : ℕ) → j < g .count → (o : Loan) → out (bufferAddress g j) ≡ some o → (offset : ℕ) (bytes : List ℕ)
         → leb (offset + length bytes) (grantSize (g .size) (o .grant)) ≡ true
-        → storeOf a (bufferAddress g j) offset bytes ≡ record { answer = outcome.Done; areas = storedAreas a offset bytes (hold head j (o .grant)) }
+        → storeOf a (bufferAddress g j) offset bytes ≡ record { answer = done; areas = storedAreas a offset bytes (hold head j (o .grant)) }
     unfolding storeOf storePlan
     store-done j h o e offset bytes s = rw (held-out j h o e, s)
 
     pub store-past : (j : ℕ) → j < g .count → (o : Loan) → out (bufferAddress g j) ≡ some o → (offset : ℕ) (bytes : List ℕ)
         → leb (offset + length bytes) (grantSize (g .size) (o .grant)) ≡ false
-        → storeOf a (bufferAddress g j) offset bytes ≡ refusedWith (outcome.Refused PastClient) a
+        → storeOf a (bufferAddress g j) offset bytes ≡ refusedWith (answer.Refused PastClient) a
     unfolding storeOf storePlan
     store-past j h o e offset bytes s = rw (held-out j h o e, s)
 
     pub store-in : (j : ℕ) → j < g .count → out (bufferAddress g j) ≡ none → (offset : ℕ) (bytes : List ℕ)
-        → storeOf a (bufferAddress g j) offset bytes ≡ refusedWith (outcome.Refused NotAllocated) a
+        → storeOf a (bufferAddress g j) offset bytes ≡ refusedWith (answer.Refused NotAllocated) a
     unfolding storeOf storePlan
     store-in j h e offset bytes = rw (held-in j h e)
 
     pub store-stray : (x : ℕ) → placeOf (g .heap) (g .chunk) (g .count) x ≡ place.Nowhere → (offset : ℕ) (bytes : List ℕ)
-        → storeOf a x offset bytes ≡ refusedWith (outcome.Refused NoSuchBuffer) a
+        → storeOf a x offset bytes ≡ refusedWith (answer.Refused NoSuchBuffer) a
     unfolding storeOf storePlan
     store-stray x e offset bytes = rw (held-stray x e)
 
@@ -177,12 +177,12 @@ module _ (g : Sheet) (laid : Laid g) where
 
     -- ---- allocate
 
-    pub allocate-unlawful : (q : Grant) (uptime thread : ℕ) → lawfulSize (g .size) q ≡ false → allocateOf a q uptime thread ≡ refusedWith (allocated.Refused BadSize) a
+    pub allocate-unlawful : (q : Grant) (uptime thread : ℕ) → lawfulSize (g .size) q ≡ false → allocateOf a q uptime thread ≡ refusedWith (answer.Refused BadSize) a
     unfolding allocateOf allocatePlan takenOf
     allocate-unlawful q uptime thread e = rw (opens g laid v, e)
 
   pub allocate-none : {head : ℕ} {a : Areas} {out : ℕ → Option Loan} → Holds g head a out [] → (q : Grant) (uptime thread : ℕ) → lawfulSize (g .size) q ≡ true
-      → allocateOf a q uptime thread ≡ refusedWith (allocated.Refused NoRoom) a
+      → allocateOf a q uptime thread ≡ refusedWith (answer.Refused NoRoom) a
   unfolding allocateOf allocatePlan takenOf
   allocate-none {head} v q uptime thread e = rw (opens g laid v, e, eq-eqb head 0 (none-linked g laid _ head (v .linked)))
 
@@ -195,7 +195,7 @@ module _ (g : Sheet) (laid : Laid g) where
     taken-in = none-out (out (bufferAddress g j)) (omega (arith, v .each j taken-below, occ-here j js))
 
     pub allocate-some : (q : Grant) (uptime thread : ℕ) → lawfulSize (g .size) q ≡ true
-        → allocateOf a q uptime thread ≡ record { answer = allocated.At (bufferAddress g j); areas = grantedAreas a q uptime thread (spot head j) }
+        → allocateOf a q uptime thread ≡ record { answer = answer.Value (bufferAddress g j); areas = grantedAreas a q uptime thread (spot head j) }
     unfolding allocateOf allocatePlan takenOf takenHead takenChunk
     allocate-some q uptime thread e =
         let h = taken-below in

@@ -21,9 +21,10 @@ use Rattle.holding.specs.Holding.{heldChunk, heldAt, heldOf}
 use Rattle.holding.specs.Free.{freePlan, freedAreas, freeOf}
 use Rattle.holding.specs.Store.{storePlan, storedAreas, storeOf}
 use Rattle.area.specs.declared.refusal.Refusal.the-variants.{NoSuchBuffer, NoRoom, BadSize, OtherGrant}
-use Rattle.area.specs.declared.refusal.Outcome.the-variants as outcome
-use Rattle.allocation.specs.declared.allocate.Allocated.the-variants as allocated
-use Rattle.ledger.specs.Ledger.{Call, allocate, free, store, Answer, resultOf, put, World, opened, run, Sound}
+use Rattle.area.specs.Refusal.{done}
+use Rattle.area.specs.declared.refusal.Answer.the-variants as answer
+use Rattle.area.specs.declared.refusal.Answer.{Answer}
+use Rattle.ledger.specs.Ledger.{Call, allocate, free, store, resultOf, put, World, opened, run, Sound}
 use Rattle.ledger.proofs.Theorem.{theorem}
 
 -- the areas before, of the lengths that lay out asks for
@@ -31,7 +32,7 @@ areas₀ : Areas
 areas₀ = record { sheet = replicate 48 0; heap = replicate 48 0; records = replicate 192 0 }
 
 -- the lay out is accepted
-laid₀ : layOutOf areas₀ 64 4096 8192 8 2 .answer ≡ outcome.Done
+laid₀ : layOutOf areas₀ 64 4096 8192 8 2 .answer ≡ done
 unfolding areas₀ layOutPlan layOutOf measured numbered lawful sizesLawful basesLawful
 laid₀ = refl
 
@@ -39,7 +40,7 @@ laid₀ = refl
 world₀ : List Call → World
 world₀ calls = run 8 calls (opened (layOutOf areas₀ 64 4096 8192 8 2 .areas))
 
-answer₀ : List Call → (call : Call) → Answer call
+answer₀ : List Call → Call → Answer
 answer₀ calls call = resultOf call (world₀ calls .areas) .answer
 
 -- a grant of 5 bytes, two bytes stored from offset 1 on, a store past the 5 bytes, and a whole grant
@@ -57,13 +58,13 @@ record Evaluated : Type 0 where
   second : world₀ calls₀ .ledger .out 4120 ≡ some (record { grant = grant.Whole; client = repeated 8 grantFill })
   granted : world₀ calls₀ .ledger .allocations ≡ 2
   none-freed : world₀ calls₀ .ledger .frees ≡ 0
-  no-room : answer₀ calls₀ (allocate (grant.Sized 1) 4 7) ≡ allocated.Refused NoRoom
-  too-large : answer₀ calls₀ (allocate (grant.Sized 9) 4 7) ≡ allocated.Refused BadSize
-  other-grant : answer₀ calls₀ (free 4096 (grant.Sized 6) 4 7) ≡ outcome.Refused OtherGrant
-  no-buffer : answer₀ calls₀ (free 4097 (grant.Sized 5) 4 7) ≡ outcome.Refused NoSuchBuffer
+  no-room : answer₀ calls₀ (allocate (grant.Sized 1) 4 7) ≡ answer.Refused NoRoom
+  too-large : answer₀ calls₀ (allocate (grant.Sized 9) 4 7) ≡ answer.Refused BadSize
+  other-grant : answer₀ calls₀ (free 4096 (grant.Sized 6) 4 7) ≡ answer.Refused OtherGrant
+  no-buffer : answer₀ calls₀ (free 4097 (grant.Sized 5) 4 7) ≡ answer.Refused NoSuchBuffer
   back : world₀ calls₁ .ledger .out 4096 ≡ none
   freed : world₀ calls₁ .ledger .frees ≡ 1
-  next : answer₀ calls₁ (allocate (grant.Sized 8) 4 7) ≡ allocated.At 4096
+  next : answer₀ calls₁ (allocate (grant.Sized 8) 4 7) ≡ answer.Value 4096
 
 evaluated : Evaluated
 unfolding areas₀ world₀ answer₀ calls₀ calls₁ run put layOutPlan layOutOf lawful sizesLawful basesLawful laidAreas sheetBytes recordBytes flat linkTo part number bytesOf numberAt repeated differenceFrom tagOf patternWord patternOf decodedOf chunkOf freeChunk grantedChunk tagAt freeVerdict zoneVerdict sizedVerdict allocatedVerdict stamped fieldIs shaped sheetOf measured numbered openedOf placeOf recordWord takenChunk takenHead takenOf allocatePlan grantedAreas allocateOf heldChunk heldAt heldOf freePlan freedAreas freeOf storePlan storedAreas storeOf

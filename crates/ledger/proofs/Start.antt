@@ -20,8 +20,9 @@ use Rattle.opening.specs.declared.sheet.Sheet.{Sheet}
 use Rattle.area.specs.declared.refusal.Refusal.the-variants.{BadSheet, BadNumber, BadLength}
 use Rattle.opening.specs.declared.sheet.Opened.the-variants as opened
 use Rattle.opening.specs.declared.sheet.Opened.the-variants.{Image}
-use Rattle.area.specs.declared.refusal.Outcome.{Outcome}
-use Rattle.area.specs.declared.refusal.Outcome.the-variants.{Done, Refused}
+use Rattle.area.specs.declared.refusal.Answer.{Answer}
+use Rattle.area.specs.declared.refusal.Answer.the-variants.{Refused}
+use Rattle.area.specs.Refusal.{done}
 use Rattle.opening.proofs.Sheets.{lawful-known, buffer-word}
 use Rattle.layout.proofs.Layouts.{link-in, link-out, length-recordBytes, laid-chunk, laid-long}
 use Rattle.verdicts.proofs.Chains.{Linked}
@@ -111,15 +112,15 @@ module _ (g : Sheet) (laid : Laid g) where
 
 three : (p q r : Bool) (a : Areas) (g : Sheet) →
     let o = pick p (pick q (pick r (Image g) (opened.Refused BadLength)) (opened.Refused BadNumber)) (opened.Refused BadSheet) in
-    let done = onOpened {A = Result Outcome} o (λ s. record { answer = Done; areas = laidAreas s }) (λ why. refusedWith (Refused why) a) in
-    done .answer ≡ Done → (q ≡ true) × (done .areas ≡ laidAreas g)
+    let laid = onOpened {A = Result Answer} o (λ s. record { answer = done; areas = laidAreas s }) (λ why. refusedWith (Refused why) a) in
+    laid .answer ≡ done → (q ≡ true) × (laid .areas ≡ laidAreas g)
 three true true true a g e = (refl, refl)
 three true true false a g e = absurd (let z : _≡_ {A = ℕ} 0 1 = cc in omega arith)
 three true false r a g e = absurd (let z : _≡_ {A = ℕ} 0 1 = cc in omega arith)
 three false q r a g e = absurd (let z : _≡_ {A = ℕ} 0 1 = cc in omega arith)
 
 -- its numbers passed, and its areas are those of the image laid out
-pub accepted : (a : Areas) (cache heap records size n : ℕ) → layOutOf a cache heap records size n .answer ≡ Done
+pub accepted : (a : Areas) (cache heap records size n : ℕ) → layOutOf a cache heap records size n .answer ≡ done
     → (lawful (laidSheet cache heap records size n) ≡ true) × (layOutOf a cache heap records size n .areas ≡ laidAreas (laidSheet cache heap records size n))
 unfolding layOutOf layOutPlan numbered measured
 accepted a cache heap records size n e =

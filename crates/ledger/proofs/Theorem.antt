@@ -21,8 +21,8 @@ use Rattle.holding.specs.Show.{shownOf}
 use Rattle.opening.specs.declared.sheet.Sheet.{Sheet}
 use Rattle.verdicts.specs.declared.pairing.Own.the-variants.{One}
 use Rattle.area.specs.declared.refusal.Refusal.the-variants.{NoRoom}
-use Rattle.allocation.specs.declared.allocate.Allocated.{Allocated}
-use Rattle.allocation.specs.declared.allocate.Allocated.the-variants as allocated
+use Rattle.area.specs.declared.refusal.Answer.{Answer}
+use Rattle.area.specs.declared.refusal.Answer.the-variants as answer
 use Rattle.holding.specs.declared.show.Shown.the-variants as shown
 use Rattle.verdicts.proofs.Marks.{occ-none}
 use Rattle.ledger.specs.Ledger.{Loan, World, headed, timesMet, isOut, Sound, Claim}
@@ -90,24 +90,24 @@ module _ (g : Sheet) (laid : Laid g) where
 
   full : {head : ℕ} {a : Areas} {out : ℕ → Option Loan} (chain : List ℕ) → Holds g head a out chain → (q : Grant) (uptime thread : ℕ)
       → lawfulSize (g .size) q ≡ true
-      → (allocateOf a q uptime thread .answer ≡ allocated.Refused NoRoom) ↔ ((i : ℕ) → i < g .count → isOut (out (bufferAddress g i)) ≡ true)
+      → (allocateOf a q uptime thread .answer ≡ answer.Refused NoRoom) ↔ ((i : ℕ) → i < g .count → isOut (out (bufferAddress g i)) ≡ true)
   full {out = out} [] v q uptime thread e = (
     λ _ i h. is-out (out (bufferAddress g i)) (omega (arith, v .each i h, occ-none i)),
-    λ _. ap (λ (r : Result Allocated). r .answer) (allocate-none g laid v q uptime thread e),
+    λ _. ap (λ (r : Result Answer). r .answer) (allocate-none g laid v q uptime thread e),
   )
   full {out = out} (j ∷ js) v q uptime thread e = (
     λ f. absurd
-        (let s = ap (λ (r : Result Allocated). r .answer) (allocate-some g laid v q uptime thread e) in let z : _≡_ {A = ℕ} 0 1 = cc in omega arith),
+        (let s = ap (λ (r : Result Answer). r .answer) (allocate-some g laid v q uptime thread e) in let z : _≡_ {A = ℕ} 0 1 = cc in omega arith),
     λ f. absurd (not-out (out (bufferAddress g j)) (taken-in g laid v) (f j (taken-below g laid v))),
   )
 
   accepts : {head : ℕ} {a : Areas} {out : ℕ → Option Loan} (chain : List ℕ) → Holds g head a out chain → (q : Grant) (uptime thread : ℕ)
-      → lawfulSize (g .size) q ≡ true → (allocateOf a q uptime thread .answer ≢ allocated.Refused NoRoom)
-      → (i : ℕ) × ((i < g .count) × ((out (bufferAddress g i) ≡ none) × (allocateOf a q uptime thread .answer ≡ allocated.At (bufferAddress g i))))
-  accepts [] v q uptime thread e ne = absurd (ne (ap (λ (r : Result Allocated). r .answer) (allocate-none g laid v q uptime thread e)))
+      → lawfulSize (g .size) q ≡ true → (allocateOf a q uptime thread .answer ≢ answer.Refused NoRoom)
+      → (i : ℕ) × ((i < g .count) × ((out (bufferAddress g i) ≡ none) × (allocateOf a q uptime thread .answer ≡ answer.Value (bufferAddress g i))))
+  accepts [] v q uptime thread e ne = absurd (ne (ap (λ (r : Result Answer). r .answer) (allocate-none g laid v q uptime thread e)))
   accepts (j ∷ js) v q uptime thread e ne = (
     j,
-    (taken-below g laid v, (taken-in g laid v, ap (λ (r : Result Allocated). r .answer) (allocate-some g laid v q uptime thread e))),
+    (taken-below g laid v, (taken-in g laid v, ap (λ (r : Result Answer). r .answer) (allocate-some g laid v q uptime thread e))),
   )
 
   pub sound : (w : World) → Fine g w → Sound g w

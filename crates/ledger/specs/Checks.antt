@@ -21,8 +21,8 @@ use Rattle.verdicts.specs.Judge.{ownedVerdict}
 use Rattle.transactions.specs.Latest.{latestRow, firstBest}
 use Rattle.area.specs.Refusal.{refusalNumber}
 use Rattle.layout.specs.Layout.{layOutOf}
-use Rattle.allocation.specs.declared.allocate.Allocated.{Allocated}
-use Rattle.allocation.specs.declared.allocate.Allocated.the-variants as allocated
+use Rattle.area.specs.declared.refusal.Answer.{Answer}
+use Rattle.area.specs.declared.refusal.Answer.the-variants as answer
 use Rattle.ledger.specs.Ledger.{Call, allocate, resultOf, opened, run}
 
 -- a fresh image of three buffers of 24 bytes
@@ -30,9 +30,9 @@ unfoldable pub freshAreas : Areas
 freshAreas = layOutOf (areas (replicate 48 0) (replicate 120 0) (replicate 288 0)) 0x70039928 0x70a9add8 0x70ae31a0 24 3 .areas
 
 -- the number of the refusal of an allocate of the whole buffer, 0 where it is accepted
-abbrev pub refusedAs : Allocated → ℕ
-refusedAs (allocated.At a) = 0
-refusedAs (allocated.Refused why) = refusalNumber why
+abbrev pub refusedAs : Answer → ℕ
+refusedAs (answer.Value a) = 0
+refusedAs (answer.Refused why) = refusalNumber why
 
 -- a log of one row, which names the record at an address
 abbrev pub rowOf : ℕ → ℕ → List ℕ

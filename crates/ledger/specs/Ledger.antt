@@ -32,10 +32,9 @@ use Rattle.opening.specs.declared.sheet.Opened.the-variants.{Image}
 use Rattle.verdicts.specs.declared.chain.Ending.the-variants.{End}
 use Rattle.verdicts.specs.declared.pairing.Own.the-variants.{One}
 use Rattle.area.specs.declared.refusal.Refusal.the-variants.{NoRoom, NotAllocated}
-use Rattle.area.specs.declared.refusal.Outcome.{Outcome}
-use Rattle.area.specs.declared.refusal.Outcome.the-variants as outcome
-use Rattle.allocation.specs.declared.allocate.Allocated.{Allocated}
-use Rattle.allocation.specs.declared.allocate.Allocated.the-variants as allocated
+use Rattle.area.specs.declared.refusal.Answer.{Answer}
+use Rattle.area.specs.declared.refusal.Answer.the-variants as answer
+use Rattle.area.specs.Refusal.{done}
 use Rattle.holding.specs.declared.show.Shown.the-variants as shown
 
 -- ---- the calls
@@ -46,14 +45,8 @@ pub data Call : Type 0 where
   free : (address : ℕ) (q : Grant) (uptime thread : ℕ) → Call
   store : (address offset : ℕ) (bytes : List ℕ) → Call
 
--- what each call answers
-abbrev pub Answer : Call → Type 0
-Answer (allocate q uptime thread) = Allocated
-Answer (free address q uptime thread) = Outcome
-Answer (store address offset bytes) = Outcome
-
 -- K and E: each call refuses, answers and writes as its own definition says
-abbrev pub resultOf : (call : Call) → Areas → Result (Answer call)
+abbrev pub resultOf : Call → Areas → Result Answer
 resultOf (allocate q uptime thread) a = allocateOf a q uptime thread
 resultOf (free address q uptime thread) a = freeOf a address q uptime thread
 resultOf (store address offset bytes) a = storeOf a address offset bytes
@@ -85,26 +78,26 @@ laidOver offset bytes none = none
 laidOver offset bytes (some o) = some (record { grant = o .grant; client = sets (o .client) offset bytes })
 
 -- B2 (an accepted allocate), B5 (a refused call)
-abbrev pub noteAllocate : ℕ → Grant → Allocated → Ledger → Ledger
-noteAllocate size q (allocated.At a) l = record { out = put a (some (fresh size q)) (l .out); allocations = suc (l .allocations); frees = l .frees }
-noteAllocate size q (allocated.Refused why) l = l
+abbrev pub noteAllocate : ℕ → Grant → Answer → Ledger → Ledger
+noteAllocate size q (answer.Value a) l = record { out = put a (some (fresh size q)) (l .out); allocations = suc (l .allocations); frees = l .frees }
+noteAllocate size q (answer.Refused why) l = l
 
 -- B4 (an accepted free), B5
-abbrev pub noteFree : ℕ → Outcome → Ledger → Ledger
-noteFree address outcome.Done l = record { out = put address none (l .out); allocations = l .allocations; frees = suc (l .frees) }
-noteFree address (outcome.Refused why) l = l
+abbrev pub noteFree : ℕ → Answer → Ledger → Ledger
+noteFree address (answer.Value v) l = record { out = put address none (l .out); allocations = l .allocations; frees = suc (l .frees) }
+noteFree address (answer.Refused why) l = l
 
 -- B3 (an accepted store), B5
-abbrev pub noteStore : ℕ → ℕ → List ℕ → Outcome → Ledger → Ledger
-noteStore address offset bytes outcome.Done l = record {
+abbrev pub noteStore : ℕ → ℕ → List ℕ → Answer → Ledger → Ledger
+noteStore address offset bytes (answer.Value v) l = record {
   out = put address (laidOver offset bytes (l .out address)) (l .out);
   allocations = l .allocations;
   frees = l .frees;
 }
-noteStore address offset bytes (outcome.Refused why) l = l
+noteStore address offset bytes (answer.Refused why) l = l
 
 -- B2 to B5, from what a call is given and what it answers alone; `size` is that of the buffers, an argument of lay out
-abbrev pub note : ℕ → (call : Call) → Answer call → Ledger → Ledger
+abbrev pub note : ℕ → Call → Answer → Ledger → Ledger
 note size (allocate q uptime thread) answer l = noteAllocate size q answer l
 note size (free address q uptime thread) answer l = noteFree address answer l
 note size (store address offset bytes) answer l = noteStore address offset bytes answer l
@@ -206,16 +199,16 @@ pub record Sound (laid : Sheet) (w : World) : Type 0 where
   -- B12: a request of lawful size, which X6 does not fit, is refused for want of room, X5, exactly when all buffers are out; else it is accepted, with
   -- the address of a buffer that is not out
   pub room : (q : Grant) (uptime thread : ℕ) → lawfulSize (laid .size) q ≡ true
-      → (allocateOf (w .areas) q uptime thread .answer ≡ allocated.Refused NoRoom)
+      → (allocateOf (w .areas) q uptime thread .answer ≡ answer.Refused NoRoom)
       ↔ ((i : ℕ) → i < laid .count → isOut (w .ledger .out (bufferAddress laid i)) ≡ true)
   pub accepts : (q : Grant) (uptime thread : ℕ) → lawfulSize (laid .size) q ≡ true
-      → (allocateOf (w .areas) q uptime thread .answer ≢ allocated.Refused NoRoom)
+      → (allocateOf (w .areas) q uptime thread .answer ≢ answer.Refused NoRoom)
       → (i : ℕ)
       × ((i < laid .count)
-      × ((w .ledger .out (bufferAddress laid i) ≡ none) × (allocateOf (w .areas) q uptime thread .answer ≡ allocated.At (bufferAddress laid i))))
+      × ((w .ledger .out (bufferAddress laid i) ≡ none) × (allocateOf (w .areas) q uptime thread .answer ≡ answer.Value (bufferAddress laid i))))
 
 -- B6 to B12, one claim about the whole list: after an accepted lay out, whose cache address is a word, and any calls
 abbrev pub Claim : Type 0
-Claim = (a : Areas) (cache heap records size n : ℕ) → cache < 4294967296 → layOutOf a cache heap records size n .answer ≡ outcome.Done
+Claim = (a : Areas) (cache heap records size n : ℕ) → cache < 4294967296 → layOutOf a cache heap records size n .answer ≡ done
     → (calls : List Call)
     → Sound (laidSheet cache heap records size n) (run size calls (opened (layOutOf a cache heap records size n .areas)))

@@ -9,15 +9,11 @@ use lib.Seq.{sets}
 use native.Mathlib.Omega.{arith}
 use borrow.Author.Tests.{eqb-true, eqb-false, leb-true, not-true}
 use lib.Dec.{leb}
-use Rattle.words.specs.Run.{pick}
 use Rattle.words.proofs.Parts.{below, length-part, part-lent, part-back}
 use Rattle.chunks.specs.Chunk.{ChunkLength, bufferSize}
 use Rattle.area.specs.Record.{recordSize}
-use Rattle.opening.specs.Sheet.{shaped, sheetOf, lengthsRight, measured, numbered, openedOf, openedWithLog, onOpened, logRight, sizesLawful, basesLawful, lawful, Sizes, Bases, Lawful, heapLength, recordsLength}
+use Rattle.opening.specs.Sheet.{shaped, sizesLawful, basesLawful, lawful, Sizes, Bases, Lawful, heapLength, recordsLength}
 use Rattle.opening.specs.declared.sheet.Sheet.{Sheet}
-use Rattle.opening.specs.declared.sheet.Opened.{Opened}
-use Rattle.opening.specs.declared.sheet.Opened.the-variants.{Image, Refused}
-use Rattle.area.specs.declared.refusal.Refusal.the-variants.{BadSheet, BadNumber, BadLength}
 
 pub sizes-known : (size chunk n flags : ℕ) → sizesLawful size chunk n flags ≡ true → Sizes size chunk n flags
 unfolding sizesLawful
@@ -134,35 +130,3 @@ module _ (l : List ℕ) (g : Sheet) (i : ℕ) (law : Lawful g) (long : length l 
       let n : i * g .chunk + g .chunk - i * g .chunk ≡ g .chunk = omega arith in
       let c = law .sizes .chunks in
       rw (e ∙ ap f lent-size, n) (part-back l (f (g .size)) (i * g .chunk) (g .chunk) (size (g .size) ∙ sym c) inside)
-
--- ---- an image that is open
-
-opened-law : (s : List ℕ) (h r : ℕ) (g : Sheet) → openedOf s h r ≡ Image g → Lawful g
-unfolding openedOf numbered measured
-opened-law s h r g e = go (shaped s) (lawful (sheetOf s)) (lengthsRight (sheetOf s) h r) refl e
-  where
-    go : (a b c : Bool) → lawful (sheetOf s) ≡ b → pick a (pick b (pick c (Image (sheetOf s)) (Refused BadLength)) (Refused BadNumber)) (Refused BadSheet) ≡ Image g
-        → Lawful g
-    go true true true l f = let z : sheetOf s ≡ g = cc in subst Lawful z (lawful-known (sheetOf s) l)
-    go true true false l f = absurd (let z : _≡_ {A = ℕ} 0 1 = cc in omega arith)
-    go true false c l f = absurd (let z : _≡_ {A = ℕ} 0 1 = cc in omega arith)
-    go false b c l f = absurd (let z : _≡_ {A = ℕ} 0 1 = cc in omega arith)
-
--- a sheet that opens is 48 bytes long
-pub opened-long : (s : List ℕ) (h r : ℕ) (g : Sheet) → openedOf s h r ≡ Image g → length s ≡ 48
-unfolding openedOf
-opened-long s h r g e = go (shaped s) refl e
-  where
-    go : (a : Bool) → shaped s ≡ a → pick a (numbered (sheetOf s) h r) (Refused BadSheet) ≡ Image g → length s ≡ 48
-    go true q f = shaped-long s q
-    go false q f = absurd (let z : _≡_ {A = ℕ} 0 1 = cc in omega arith)
-
--- a sheet that opens, with a log, is lawful
-pub logged-law : (s : List ℕ) (h r l : ℕ) (g : Sheet) → openedWithLog s h r l ≡ Image g → Lawful g
-unfolding openedWithLog
-logged-law s h r l g e = go (openedOf s h r) (logRight l) refl e
-  where
-    go : (o : Opened) (b : Bool) → openedOf s h r ≡ o → onOpened o (λ x. pick b (Image x) (Refused BadLength)) Refused ≡ Image g → Lawful g
-    go (Image x) true q f = let z : x ≡ g = cc in opened-law s h r g (q ∙ ap Image z)
-    go (Image x) false q f = absurd (let z : _≡_ {A = ℕ} 0 1 = cc in omega arith)
-    go (Refused why) b q f = absurd (let z : _≡_ {A = ℕ} 0 1 = cc in omega arith)

@@ -151,15 +151,6 @@ pub record Open (h r : ℕ) (g : Sheet) : Type 0 where
   pub heapLong : h ≡ heapLength g
   pub recordsLong : r ≡ recordsLength g
 
-abbrev pub OpenedIf : ℕ → ℕ → Opened → Type 0
-OpenedIf h r (Image g) = Open h r g
-OpenedIf h r (Refused why) = Unit {0}
-
--- the same where a log of l bytes is given too
-abbrev pub LoggedIf : ℕ → ℕ → ℕ → Opened → Type 0
-LoggedIf h r l (Image g) = Open h r g × (l ≤ 16384)
-LoggedIf h r l (Refused why) = Unit {0}
-
 -- ---- the lengths that a sheet asks for
 
 unfoldable pub areasOf : Sheet → Lengths
@@ -168,8 +159,3 @@ areasOf g = pick (lawful g) (lengths.Areas (heapLength g) (recordsLength g)) (le
 -- K13 (area lengths): X1 and X2, and then the lengths that X3 asks for
 unfoldable pub lengthsOf : List ℕ → Lengths
 lengthsOf s = pick (shaped s) (areasOf (sheetOf s)) (lengths.Refused BadSheet)
-
--- what is known of them: they are small
-abbrev pub LengthsIf : Lengths → Type 0
-LengthsIf (lengths.Areas h r) = (h ≤ 65536) × (r ≤ 49152)
-LengthsIf (lengths.Refused why) = Unit {0}

@@ -2,7 +2,7 @@
 ghost use mathlib.Core.Path.{_≡_};
 ghost use Prim.Native.Nat.{_+_, _*_, _≤_};
 ghost use lib.ListN.{length};
-ghost use Rattle.opening.specs.Sheet.{fieldIs, shaped, sheetOf, sizesLawful, basesLawful, lawful, measured, numbered, openedOf, openedWithLog, Lawful, OpenedIf, LoggedIf, areasOf, lengthsOf, LengthsIf};
+ghost use Rattle.opening.specs.Sheet.{fieldIs, shaped, sheetOf, sizesLawful, basesLawful, lawful, measured, numbered, openedOf, openedWithLog, Lawful, areasOf, lengthsOf};
 use area::record;
 use area::refusal::Refusal;
 use words::word;
@@ -163,7 +163,6 @@ fn is_lawful(g: Sheet) -> bool
 fn measure(g: Sheet, heap_len: usize, records_len: usize) -> Opened
     requires { ⌜ Lawful g ⌝ }
     ensures { λ r. ⌜ r ≡ measured g «heap_len» «records_len» ⌝ }
-    ensures { λ r. ⌜ OpenedIf «heap_len» «records_len» r ⌝ }
 {
     if heap_len != g.count * g.chunk {
         return Opened::Refused(Refusal::BadLength);
@@ -177,7 +176,6 @@ fn measure(g: Sheet, heap_len: usize, records_len: usize) -> Opened
 // The step before it: the sheet's numbers.
 pub fn judge_numbers(g: Sheet, heap_len: usize, records_len: usize) -> Opened
     ensures { λ r. ⌜ r ≡ numbered g «heap_len» «records_len» ⌝ }
-    ensures { λ r. ⌜ OpenedIf «heap_len» «records_len» r ⌝ }
 {
     if is_lawful(g) {
         return measure(g, heap_len, records_len);
@@ -188,7 +186,6 @@ pub fn judge_numbers(g: Sheet, heap_len: usize, records_len: usize) -> Opened
 // Opens an image whose areas have these lengths.
 pub fn open(sheet: &[u8], heap_len: usize, records_len: usize) -> Opened
     ensures { λ r. ⌜ r ≡ openedOf (now (sheet .entry)) «heap_len» «records_len» ⌝ }
-    ensures { λ r. ⌜ OpenedIf «heap_len» «records_len» r ⌝ }
 {
     if is_shaped(sheet) {
         return judge_numbers(read(sheet), heap_len, records_len);
@@ -199,7 +196,6 @@ pub fn open(sheet: &[u8], heap_len: usize, records_len: usize) -> Opened
 // The same where a log is given too.
 pub fn open_with_log(sheet: &[u8], heap_len: usize, records_len: usize, log_len: usize) -> Opened
     ensures { λ r. ⌜ r ≡ openedWithLog (now (sheet .entry)) «heap_len» «records_len» «log_len» ⌝ }
-    ensures { λ r. ⌜ LoggedIf «heap_len» «records_len» «log_len» r ⌝ }
 {
     let opened = open(sheet, heap_len, records_len);
     match opened {
@@ -219,7 +215,6 @@ pub fn open_with_log(sheet: &[u8], heap_len: usize, records_len: usize, log_len:
 // The lengths of the areas, by the sheet's numbers.
 fn measure_areas(g: Sheet) -> Lengths
     ensures { λ r. ⌜ r ≡ areasOf g ⌝ }
-    ensures { λ r. ⌜ LengthsIf r ⌝ }
 {
     if is_lawful(g) {
         return Lengths::Areas(g.count * g.chunk, g.count * record::SIZE);
@@ -230,7 +225,6 @@ fn measure_areas(g: Sheet) -> Lengths
 // How long the areas of an image are, for a caller that has only its sheet yet.
 pub fn area_lengths(sheet: &[u8]) -> Lengths
     ensures { λ r. ⌜ r ≡ lengthsOf (now (sheet .entry)) ⌝ }
-    ensures { λ r. ⌜ LengthsIf r ⌝ }
 {
     if is_shaped(sheet) {
         return measure_areas(read(sheet));

@@ -1,10 +1,10 @@
 -- What a survey into a row for 512 buffers tells the report, and that the report's text speaks only of the buffers there are. Assumes nothing.
-use mathlib.Core.Path.{_≡_, refl, sym, ap, _∙_}
+use mathlib.Core.Path.{_≡_, refl, sym, ap, _∙_, subst}
 use mathlib.Core.List.{List}
 use Prim.Native.Nat.{ℕ, _+_, _*_, _≤_, _<_}
 use native.Mathlib.Nat.{mul-comm}
 use native.Mathlib.Omega.{arith}
-use borrow.Author.Tests.{le-leb}
+use borrow.Author.Tests.{le-leb, leb-true}
 use lib.ListN.{length, getD}
 use lib.Seq.{sets}
 use Rattle.words.proofs.Parts.{flat-same}
@@ -12,18 +12,25 @@ use Rattle.words.proofs.Sums.{total-same}
 use Rattle.tags.specs.Verdict.{verdictNumber, verdictValue}
 use Rattle.opening.specs.Sheet.{openedWithLog, onOpened}
 use Rattle.verdicts.specs.Judge.{verdictOf, imageChain}
-use Rattle.image.specs.Inspect.{tableOf, unfilled, ifRoom, surveyed, Surveying, surveyOf}
+use Rattle.image.specs.Inspect.{tableOf, surveyed, Surveying, surveyOf}
 use Rattle.opening.specs.declared.sheet.Sheet.{Sheet}
 use Rattle.opening.specs.declared.sheet.Opened.{Opened}
 use Rattle.image.specs.declared.inspect.Overview.{Overview}
 use Rattle.area.specs.declared.refusal.Refusal.{Refusal}
 use Rattle.area.specs.declared.refusal.Refusal.the-variants.{ShortOutput}
-use Rattle.opening.proofs.Sheets.{logged-law}
+use Rattle.opening.proofs.Opens.{logged-known, by-opened}
+use Rattle.words.proofs.Tests.{by-test}
+use Rattle.opening.specs.Areas.{Areas}
+use Rattle.area.specs.Filling.{Filling, filling, unfilled, ifRoom}
+use Rattle.area.specs.declared.refusal.Answer.{Answer}
+use Rattle.area.specs.declared.refusal.Answer.the-variants.{Value, Refused}
+use Rattle.lines.specs.declared.text.Written.{Written}
+use lib.Dec.{leb}
 use Rattle.image.proofs.Findings.{finding}
 use Rattle.lines.specs.Text.{textOf, lineOf, faultOf, rowNumber, rowValue}
-use Rattle.report.specs.Answer.{reportText, Reporting, reporting, reportOf}
-use Rattle.report.specs.declared.answer.Reported.the-variants.{Refused}
+use Rattle.report.specs.Answer.{reportText, reportedBy, reporting, reportOf}
 use Rattle.opening.specs.declared.sheet.Opened.the-variants as opened
+use Rattle.image.specs.declared.inspect.Surveyed.{Surveyed}
 use Rattle.image.specs.declared.inspect.Surveyed.the-variants as surveys
 
 -- ---- the text looks at the first n buffers only
@@ -48,62 +55,74 @@ rows-text g heap records rows room =
 -- ---- a row for 512 buffers is long enough
 
 -- what a survey tells of an image that is open, or not
-abbrev pub surveyFrom : Opened → List ℕ → List ℕ → List ℕ → Surveying
-surveyFrom (opened.Image g) heap records rows = record { answer = surveys.Image (surveyed g records); rows = sets rows 0 (tableOf g heap records) }
-surveyFrom (opened.Refused why) heap records rows = unfilled (surveys.Refused why) rows
+abbrev pub surveyFrom : Opened → Areas → List ℕ → Surveying
+surveyFrom (opened.Image g) a rows = filling (surveys.Image (surveyed g (a .records))) (sets rows 0 (tableOf g (a .heap) (a .records)))
+surveyFrom (opened.Refused why) a rows = unfilled (surveys.Refused why) rows
 
-pub survey-long : (s heap records : List ℕ) (l : ℕ) (rows : List ℕ) → 1536 ≤ length rows
-    → surveyOf s heap records l rows ≡ surveyFrom (openedWithLog s (length heap) (length records) l) heap records rows
+abbrev opening : Areas → ℕ → Opened
+opening a l = openedWithLog (a .sheet) (length (a .heap)) (length (a .records)) l
+
+-- the count of an image that opens is small
+few : (a : Areas) (l : ℕ) (g : Sheet) → opening a l ≡ opened.Image g → g .count ≤ 512
+few a l g e = logged-known _ _ _ _ g e .0 .opens .law .sizes .few
+
+pub survey-long : (a : Areas) (l : ℕ) (rows : List ℕ) → 1536 ≤ length rows → surveyOf a l rows ≡ surveyFrom (opening a l) a rows
 unfolding surveyOf
-survey-long s heap records l rows long = go (openedWithLog s (length heap) (length records) l) refl
+survey-long a l rows long = go (opening a l) refl
   where
-    go : (o : Opened) → openedWithLog s (length heap) (length records) l ≡ o
+    go : (o : Opened) → opening a l ≡ o
         → onOpened {A = Surveying} o
-        (λ g. ifRoom (g .count * 3) rows (record { answer = surveys.Image (surveyed g records); rows = sets rows 0 (tableOf g heap records) }) (surveys.Refused ShortOutput))
+        (λ g. ifRoom (g .count * 3) rows (filling (surveys.Image (surveyed g (a .records))) (sets rows 0 (tableOf g (a .heap) (a .records)))) (surveys.Refused ShortOutput))
         (λ why. unfilled (surveys.Refused why) rows)
-        ≡ surveyFrom o heap records rows
-    go (opened.Image g) e =
-        let few = logged-law s (length heap) (length records) l g e .sizes .few in
-        rw (le-leb (g .count * 3) (length rows) (omega arith))
+        ≡ surveyFrom o a rows
+    go (opened.Image g) e = rw (le-leb (g .count * 3) (length rows) (omega (arith, few a l g e)))
     go (opened.Refused why) e = refl
 
 -- ---- from a survey to the report
 
-module _ (s heap records : List ℕ) (l : ℕ) (rows output : List ℕ) (long : 1536 ≤ length rows) where
+module _ (a : Areas) (l : ℕ) (rows output : List ℕ) (long : 1536 ≤ length rows) where
   -- a survey that is refused refuses the report
-  pub report-refused : (why : Refusal) → surveyOf s heap records l rows .answer ≡ surveys.Refused why
-      → reportOf s heap records l output ≡ record { answer = Refused why; output = output }
+  pub report-refused : (why : Refusal) → surveyOf a l rows .answer ≡ surveys.Refused why → reportOf a l output ≡ unfilled (Refused why) output
   unfolding reportOf
-  report-refused why e =
-      go (openedWithLog s (length heap) (length records) l) (sym (ap (λ (x : Surveying). x .answer) (survey-long s heap records l rows long)) ∙ e)
+  report-refused why e = go (opening a l) (sym (ap (λ (x : Surveying). x .answer) (survey-long a l rows long)) ∙ e)
     where
-      go : (o : Opened) → surveyFrom o heap records rows .answer
-          ≡ surveys.Refused why
-          → onOpened {A = Reporting} o (λ g. reporting (reportText g heap records) output) (λ r. record { answer = Refused r; output = output })
-          ≡ record { answer = Refused why; output = output }
+      go : (o : Opened) → surveyFrom o a rows .answer ≡ surveys.Refused why
+          → onOpened {A = Filling Answer ℕ} o (λ g. reporting (reportText g (a .heap) (a .records)) output) (λ r. unfilled (Refused r) output)
+          ≡ unfilled (Refused why) output
       go (opened.Image g) f = absurd (let z : _≡_ {A = ℕ} 0 1 = cc in omega arith)
       go (opened.Refused r) f = let z : r ≡ why = cc in rw z
 
   -- any other gives the text of its rows
-  pub report-image : (o : Overview) (r : List ℕ) → surveyOf s heap records l rows .answer ≡ surveys.Image o → r ≡ surveyOf s heap records l rows .rows
-      → reportOf s heap records l output ≡ reporting (textOf (rowNumber r) (rowValue r) (o .count) (o .met) (o .ending)) output
+  pub report-image : (v : Overview) (s : Surveyed) (r : List ℕ) → filling s r ≡ surveyOf a l rows → s ≡ surveys.Image v
+      → reportOf a l output ≡ reporting (textOf (rowNumber r) (rowValue r) (v .count) (v .met) (v .ending)) output
   unfolding reportOf
-  report-image v r e q =
-      go (openedWithLog s (length heap) (length records) l) refl
-      (sym (ap (λ (x : Surveying). x .answer) (survey-long s heap records l rows long)) ∙ e)
-      (q ∙ ap (λ (x : Surveying). x .rows) (survey-long s heap records l rows long))
+  report-image v s r e i = go (opening a l) refl (ap (λ (x : Surveyed). filling x r) (sym i) ∙ e ∙ survey-long a l rows long)
     where
-      go : (o : Opened) → openedWithLog s (length heap) (length records) l ≡ o → surveyFrom o heap records rows .answer
-          ≡ surveys.Image v
-          → r
-          ≡ surveyFrom o heap records rows .rows
-          → onOpened {A = Reporting} o (λ g. reporting (reportText g heap records) output) (λ w. record { answer = Refused w; output = output })
+      go : (o : Opened) → opening a l ≡ o → filling (surveys.Image v) r ≡ surveyFrom o a rows
+          → onOpened {A = Filling Answer ℕ} o (λ g. reporting (reportText g (a .heap) (a .records)) output) (λ w. unfilled (Refused w) output)
           ≡ reporting (textOf (rowNumber r) (rowValue r) (v .count) (v .met) (v .ending)) output
-      go (opened.Image g) p f k =
-          let z : surveyed g records ≡ v = cc in
-          let few = logged-law s (length heap) (length records) l g p .sizes .few in
+      go (opened.Image g) p f =
+          let q = ap (λ (x : Surveying). x .answer) f in
+          let z : surveyed g (a .records) ≡ v = cc in
+          let k : r ≡ sets rows 0 (tableOf g (a .heap) (a .records)) = ap (λ (x : Surveying). x .rows) f in
           ap (λ (t : List ℕ). reporting t output)
-          (sym (rows-text g heap records rows (omega arith))
-          ∙ ap (λ (x : List ℕ). textOf (rowNumber x) (rowValue x) (g .count) (length (imageChain g records .met)) (imageChain g records .ending)) (sym k)
+          (sym (rows-text g (a .heap) (a .records) rows (omega (arith, few a l g p)))
+          ∙ ap (λ (x : List ℕ). textOf (rowNumber x) (rowValue x) (g .count) (length (imageChain g (a .records) .met)) (imageChain g (a .records) .ending)) (sym k)
           ∙ ap (λ (x : Overview). textOf (rowNumber r) (rowValue r) (x .count) (x .met) (x .ending)) z)
-      go (opened.Refused w) p f k = absurd (let z : _≡_ {A = ℕ} 0 1 = cc in omega arith)
+      go (opened.Refused w) p f = let q = ap (λ (x : Surveying). x .answer) f in absurd (let z : _≡_ {A = ℕ} 0 1 = cc in omega arith)
+
+-- ---- the text fits the output
+
+pub report-fits : (a : Areas) (l : ℕ) (output : List ℕ) (k : ℕ) → reportOf a l output .answer ≡ Value k → k ≤ length output
+unfolding reportOf
+report-fits a l output k =
+    by-opened {f = λ g. reporting (reportText g (a .heap) (a .records)) output} {shut = λ why. unfilled (Refused why) output}
+    (λ (x : Filling Answer ℕ). x .answer ≡ Value k → k ≤ length output) (opening a l)
+    (λ g e. go (reportText g (a .heap) (a .records)))
+    (λ why q. absurd (let z : _≡_ {A = ℕ} 0 1 = cc in omega arith))
+  where
+    go : (text : List ℕ) → reporting text output .answer ≡ Value k → k ≤ length output
+    go text =
+        by-test (λ (w : Written). reportedBy w ≡ Value k → k ≤ length output) (leb (length text) (length output))
+        (λ t q. let z : length text ≡ k = cc in subst (λ (n : ℕ). n ≤ length output) z (leb-true _ _ t))
+        (λ t q. absurd (let z : _≡_ {A = ℕ} 0 1 = cc in omega arith))

@@ -13,7 +13,7 @@ use Rattle.tags.specs.declared.verdict.Verdict.the-variants.{NotOneRecord}
 use Rattle.area.specs.Record.{recordSize, recordWord, stampHighAt, stampLowAt}
 use Rattle.opening.specs.Sheet.{openedWithLog, onOpened}
 use Rattle.verdicts.specs.Pairing.{ownOf, byOwn}
-use Rattle.opening.specs.Areas.{bufferAddress, recordAddress, PartAt}
+use Rattle.opening.specs.Areas.{Areas, bufferAddress, recordAddress, PartAt}
 use Rattle.opening.specs.declared.sheet.Sheet.{Sheet}
 use Rattle.area.specs.declared.place.Place.{Place}
 use Rattle.area.specs.declared.place.Place.the-variants as place
@@ -66,9 +66,9 @@ indexedLatest g records log index time =
     pick (ltb index (g .count)) (byOwn (ownOf records (g .count) (bufferAddress g index)) (ownedLatest g records log time) (Refused (Damage NotOneRecord))) (Refused NoSuchBuffer)
 
 -- E7 (the order of latest), after E3
-unfoldable pub latestOf : List ℕ → List ℕ → List ℕ → List ℕ → ℕ → ℕ → Transaction
-latestOf s heap records log index time =
-    onOpened (openedWithLog s (length heap) (length records) (length log)) (λ g. indexedLatest g records log index time) Refused
+unfoldable pub latestOf : Areas → List ℕ → ℕ → ℕ → Transaction
+latestOf a log index time =
+    onOpened (openedWithLog (a .sheet) (length (a .heap)) (length (a .records)) (length log)) (λ g. indexedLatest g (a .records) log index time) Refused
 
 -- L4 (the part handed back), E1 (of a refusal, none)
 abbrev pub latestPart : List ℕ → List ℕ → Transaction → List ℕ
@@ -96,10 +96,3 @@ pub record Smallest (log : List ℕ) (a time stamp n : ℕ) (b : Best) : Type 0 
   pub record-older : b .age ≤ ageOf 32 time stamp
   pub rows-older : (j : ℕ) → j < n → rowNames log a j ≡ true → b .age ≤ rowAge log time j
   pub chosen : ChosenAt log a time stamp n (b .row) (b .age)
-
--- ---- what is known of an answer: the part lies in its area, of r or l bytes, and its number is small
-
-abbrev pub LatestIf : ℕ → ℕ → Transaction → Type 0
-LatestIf r l (Row k) = (k * rowSize + rowSize ≤ l) × (k < 1024)
-LatestIf r l (Record j) = (j * recordSize + recordSize ≤ r) × (j < 512)
-LatestIf r l (Refused why) = Unit {0}

@@ -4,9 +4,9 @@ ghost use mathlib.Core.Path.{_≡_};
 ghost use Prim.Native.Nat.{_+_, _*_, _≤_, _<_};
 ghost use lib.ListN.{length};
 ghost use Rattle.opening.specs.Sheet.{Open};
-ghost use Rattle.verdicts.specs.Pairing.{OwnIf, ownOf};
-ghost use Rattle.opening.specs.Areas.{bufferAddress};
-ghost use Rattle.transactions.specs.Latest.{rowSize, considered, latestRow, firstBest, ownedLatest, indexedLatest, latestOf, LatestIf, latestPart, LatestPlace};
+ghost use Rattle.verdicts.specs.Pairing.{ownOf};
+ghost use Rattle.opening.specs.Areas.{before, bufferAddress};
+ghost use Rattle.transactions.specs.Latest.{rowSize, considered, latestRow, firstBest, ownedLatest, indexedLatest, latestOf, latestPart, LatestPlace};
 use area::place::Place;
 use area::record;
 use area::refusal::Refusal;
@@ -76,7 +76,6 @@ fn latest_owned(records: &[u8], log: &[u8], g: Sheet, j: usize, time: u32) -> Tr
     requires { ⌜ j < g .count ⌝ }
     requires { ⌜ length (now log) ≤ 16384 ⌝ }
     ensures { λ r. ⌜ r ≡ ownedLatest g (now (records .entry)) (now (log .entry)) time j ⌝ }
-    ensures { λ r. ⌜ LatestIf (length (now (records .entry))) (length (now (log .entry))) r ⌝ }
 {
     if record::read(records, g.records, j, record::STAMP_HIGH) != 0 {
         return Transaction::Refused(Refusal::WideStamp);
@@ -96,7 +95,6 @@ fn own_of(records: &[u8], g: Sheet, i: usize) -> Own
     requires { ⌜ Open (g .count * g .chunk) (length (now records)) g ⌝ }
     requires { ⌜ i < g .count ⌝ }
     ensures { λ r. ⌜ r ≡ ownOf (now (records .entry)) (g .count) (bufferAddress g i) ⌝ }
-    ensures { λ r. ⌜ OwnIf (g .count) r ⌝ }
 {
     let mut pairs = [0u16; 512];
     pairing::pair(records, g.records, g.heap, g.chunk, g.count, &mut pairs);
@@ -108,7 +106,6 @@ fn latest_of(records: &[u8], log: &[u8], g: Sheet, index: u32, time: u32) -> Tra
     requires { ⌜ Open (g .count * g .chunk) (length (now records)) g ⌝ }
     requires { ⌜ length (now log) ≤ 16384 ⌝ }
     ensures { λ r. ⌜ r ≡ indexedLatest g (now (records .entry)) (now (log .entry)) index time ⌝ }
-    ensures { λ r. ⌜ LatestIf (length (now (records .entry))) (length (now (log .entry))) r ⌝ }
 {
     let i = index as usize;
     if i < g.count {
@@ -131,8 +128,7 @@ pub fn find_latest(
     index: u32,
     time: u32,
 ) -> Transaction
-    ensures { λ r. ⌜ r ≡ latestOf (now (sheet .entry)) (now (heap .entry)) (now (records .entry)) (now (log .entry)) index time ⌝ }
-    ensures { λ r. ⌜ LatestIf (length (now (records .entry))) (length (now (log .entry))) r ⌝ }
+    ensures { λ r. ⌜ r ≡ latestOf (before sheet heap records) (now (log .entry)) index time ⌝ }
 {
     let opened = sheet::open_with_log(sheet, heap.len(), records.len(), log.len());
     match opened {
@@ -152,9 +148,9 @@ pub fn latest<'a>(
 ) -> &'a [u8]
     ensures bytes { λ r. ⌜ now r
         ≡ latestPart (now (records .entry)) (now (log .entry))
-        (latestOf (now (sheet .entry)) (now (heap .entry)) (now (records .entry)) (now (log .entry)) index time) ⌝ }
+        (latestOf (before sheet heap records) (now (log .entry)) index time) ⌝ }
     ensures place { λ r. ⌜ LatestPlace (records .entry) (log .entry)
-        (latestOf (now (sheet .entry)) (now (heap .entry)) (now (records .entry)) (now (log .entry)) index time) r ⌝ }
+        (latestOf (before sheet heap records) (now (log .entry)) index time) r ⌝ }
 {
     let found = find_latest(sheet, heap, records, log, index, time);
     match found {

@@ -1,22 +1,25 @@
 -- What the plan found is written; a refusal writes nothing. Assumes nothing.
-use mathlib.Core.Path.{subst}
+use mathlib.Core.Path.{sym, _∙_}
 use borrow.Author.Needs.{needs}
-use Rattle.layout.specs.Layout.{layOutOf, PlannedIf}
+use Rattle.layout.specs.Layout.{layOutOf}
+use Rattle.layout.proofs.Layouts.{planned-known}
 use Rattle.layout.proofs.lay_out.Statement.{statement}
 use Rattle.layout.proofs.lay_out.Tie as tie
 
 commit-requires : tie.Need-commit-requires
-commit-requires c κs = subst (PlannedIf _ _ _) (c .before .before .before .before .planned2 .given .1) (c .before .before .before .before .before .before .plan .ensures .1)
+commit-requires c κs =
+    let p = c .before .before .before .before in
+    planned-known _ _ _ _ _ (sym (p .before .before .plan .ensures) ∙ p .planned2 .given .1)
 
 returns : tie.Need-returns
 unfolding layOutOf
 returns c =
-    rw (← c .before .before .before .before .sheet-for .ensures, ← c .before .before .before .plan .ensures .0, c .before .planned .given .1)
+    rw (← c .before .before .before .before .sheet-for .ensures, ← c .before .before .before .plan .ensures, c .before .planned .given .1)
 
 returns-2 : tie.Need-returns-2
 unfolding layOutOf
 returns-2 c =
-    rw (← c .before .before .before .before .before .before .before .before .before .before .before .before .before .before .sheet-for .ensures, ← c .before .before .before .before .before .before .before .before .before .before .before .before .before .plan .ensures .0, c .before .before .before .before .before .before .before .before .before .before .before .planned2 .given .1, c .before .before .before .before .before .before .commit .ensures)
+    rw (← c .before .before .before .before .before .before .before .before .before .before .before .before .before .before .sheet-for .ensures, ← c .before .before .before .before .before .before .before .before .before .before .before .before .before .plan .ensures, c .before .before .before .before .before .before .before .before .before .before .before .planned2 .given .1, c .before .before .before .before .before .before .commit .ensures)
 
 pub lay-out-spec : {M : Type 1} → statement M
 lay-out-spec =

@@ -1,16 +1,20 @@
 -- A report that was written fits the output. Assumes nothing.
-use mathlib.Core.Path.{subst}
+use mathlib.Core.Path.{sym, ap, _∙_}
+use Prim.Native.Nat.{ℕ}
 use native.Mathlib.Omega.{arith}
 use borrow.Author.Needs.{needs}
-use Rattle.report.specs.Answer.{ReportedIf}
+use Rattle.area.specs.Filling.{Filling}
+use Rattle.area.specs.declared.refusal.Answer.{Answer}
+use Rattle.report.proofs.Surveys.{report-fits}
 use Rattle.stored_images.proofs.tell.Statement.{statement}
 use Rattle.stored_images.proofs.tell.Tie as tie
 
 write-out-requires : tie.Need-write-out-requires
 write-out-requires c κs =
-    let r = c .before .before .before .before .before .report in
-    let k = subst (ReportedIf _) (c .before .before .told .given .1) (r .ensures .1 .1) in
-    omega (arith, k .0, r .kept .1 .1 .1 .1 .0)
+    let o = c .before .before in
+    let r = o .before .before .before .report in
+    let k = report-fits _ _ _ _ (ap (λ (x : Filling Answer ℕ). x .answer) (sym (r .ensures)) ∙ o .told .given .1) in
+    omega (arith, k, r .kept .1 .1 .1 .1 .0)
 
 pub tell-spec : {M : Type 1} → statement M
 tell-spec =
@@ -18,6 +22,7 @@ tell-spec =
     (tie.spec
     (λ c. search needs)
     (λ c κs. search needs)
+    (λ c. search needs)
     (λ c. search needs)
     (λ c. search needs)
     write-out-requires

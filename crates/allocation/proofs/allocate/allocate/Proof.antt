@@ -1,17 +1,18 @@
 -- What the plan found is written; a refusal writes nothing. Assumes nothing.
-use mathlib.Core.Path.{subst}
+use mathlib.Core.Path.{sym, _∙_}
 use native.Mathlib.Omega.{arith}
 use borrow.Author.Needs.{needs}
-use lib.ListN.{length}
-use Rattle.allocation.specs.Allocate.{allocateOf, TakenIf, Takes}
+use Rattle.allocation.specs.Allocate.{allocateOf, Takes}
+use Rattle.opening.specs.Areas.{lent, byLengths}
+use Rattle.allocation.proofs.Takings.{taken-known}
 use Rattle.opening.proofs.Sheets.{chunk-small, buffer-word}
 use Rattle.allocation.proofs.allocate.allocate.Statement.{statement}
 use Rattle.allocation.proofs.allocate.allocate.Tie as tie
 
--- what the plan knows of the buffer
-taken : (c : tie.After-planned2)
-    → Takes (length (c .before .before .before .before .before .before .before .before .before .args .sheet .now)) (length (c .before .before .before .before .before .before .before .before .before .args .heap .now)) (length (c .before .before .before .before .before .before .before .before .before .args .records .now)) (c .before .before .before .before .before .before .before .before .before .args .grant) (c .planned2 .given .0 .0)
-taken c = subst (TakenIf _ _ _ _) (c .planned2 .given .1) (c .before .before .plan .ensures .1)
+-- what is known of the buffer that the plan takes
+taken : (c : tie.After-planned2) → let a = c .before .before .before .before .before .before .before .before .before .args in
+    byLengths Takes (lent (a .sheet) (a .heap) (a .records)) (a .grant) (c .planned2 .given .0 .0)
+taken c = taken-known _ _ _ (sym (c .before .before .plan .ensures) ∙ c .planned2 .given .1)
 
 commit-requires : tie.Need-commit-requires
 commit-requires c κs = taken (c .before .before .before .before)
@@ -27,11 +28,11 @@ add-t27 c = let k = taken (c .before .before .before .before .before .before .be
 
 returns : tie.Need-returns
 unfolding allocateOf
-returns c = rw (← c .before .before .before .plan .ensures .0, c .before .planned .given .1)
+returns c = rw (← c .before .before .before .plan .ensures, c .before .planned .given .1)
 
 returns-2 : tie.Need-returns-2
 unfolding allocateOf
-returns-2 c = rw (← c .before .before .before .before .before .before .before .before .before .before .before .before .before .before .before .before .before .plan .ensures .0, c .before .before .before .before .before .before .before .before .before .before .before .before .before .before .before .planned2 .given .1, c .before .before .before .before .before .before .before .before .before .before .commit .ensures)
+returns-2 c = rw (← c .before .before .before .before .before .before .before .before .before .before .before .before .before .before .before .before .before .plan .ensures, c .before .before .before .before .before .before .before .before .before .before .before .before .before .before .before .planned2 .given .1, c .before .before .before .before .before .before .before .before .before .before .commit .ensures)
 
 pub allocate-spec : {M : Type 1} → statement M
 allocate-spec =

@@ -1,11 +1,9 @@
 -- The head is a record's address, that record's word a buffer's, and the chunk is the one at that place. Assumes nothing.
-use mathlib.Core.Path.{refl, sym, _∙_}
+use mathlib.Core.Path.{sym, _∙_}
 use Prim.Native.Nat.{_-_, _<_}
 use native.Mathlib.Omega.{arith}
 use borrow.Author.Needs.{needs}
-use lib.ListN.{length}
 use Rattle.allocation.specs.Allocate.{takenHead}
-use Rattle.allocation.proofs.Takings.{spot-taken}
 use Rattle.area.proofs.Places.{place-found}
 use Rattle.opening.proofs.Sheets.{chunk-inside, chunk-small, record-inside, record-word, lent-long}
 use Rattle.words.proofs.Parts.{part-lent}
@@ -26,43 +24,45 @@ found c = place-found _ _ _ _ _ (sym (c .before .before .find2 .ensures) ∙ c .
 read-requires : tie.Need-read-requires
 read-requires c κs =
     let s = c .before .before .before .before .before .before in
-    let h = record-inside (s .args .g) (s .pre .0 .law) _ (own (c .before)) in
-    let w = record-word (s .args .g) (s .pre .0 .law) _ (own (c .before)) in
-    let e = s .pre .0 .recordsLong in
+    let h = record-inside (s .args .g) (s .pre .law) _ (own (c .before)) in
+    let w = record-word (s .args .g) (s .pre .law) _ (own (c .before)) in
+    let e = s .pre .recordsLong in
     (omega arith, (omega arith, omega arith))
 
 mul-at : tie.Need-mul-at
-mul-at c = let s = c .before .before .before .before .before .before .before .before .before .before .before .before in let k = chunk-small (s .args .g) (s .pre .0 .law) _ (found (c .before .before)) in omega arith
+mul-at c = let s = c .before .before .before .before .before .before .before .before .before .before .before .before in let k = chunk-small (s .args .g) (s .pre .law) _ (found (c .before .before)) in omega arith
 
 add-end : tie.Need-add-end
-add-end c = let s = c .before .before .before .before .before .before .before .before .before .before .before .before .before in let k = chunk-small (s .args .g) (s .pre .0 .law) _ (found (c .before .before .before)) in omega arith
+add-end c = let s = c .before .before .before .before .before .before .before .before .before .before .before .before .before in let k = chunk-small (s .args .g) (s .pre .law) _ (found (c .before .before .before)) in omega arith
 
 part-take-chunk-end : tie.Need-part-take-chunk-end
-part-take-chunk-end c = let s = c .before .before .before .before .before .before .before .before .before .before .before .before .before in let k = chunk-inside (s .args .g) (s .pre .0 .law) _ (found (c .before .before .before)) in let e = s .pre .0 .heapLong in omega arith
+part-take-chunk-end c = let s = c .before .before .before .before .before .before .before .before .before .before .before .before .before in let k = chunk-inside (s .args .g) (s .pre .law) _ (found (c .before .before .before)) in let e = s .pre .heapLong in omega arith
 
 take-chunk-requires : tie.Need-take-chunk-requires
 take-chunk-requires c κs =
-    let s = c .before .before .before .before .before .before .before .before .before .before .before .before .before .before in (lent-long (s .args .heap .now) (s .args .g) _ (s .pre .0 .law) (s .pre .0 .heapLong) (found (c .before .before .before .before)), s .pre .0 .law)
+    let s = c .before .before .before .before .before .before .before .before .before .before .before .before .before .before in (lent-long (s .args .heap .now) (s .args .g) _ (s .pre .law) (s .pre .heapLong) (found (c .before .before .before .before)), s .pre .law)
 
 returns : tie.Need-returns
 unfolding takenHead
-returns c = (rw (← c .before .before .find .ensures, c .enum-told .given .1), tt)
+returns c = rw (← c .before .before .find .ensures, c .enum-told .given .1)
 
 returns-2 : tie.Need-returns-2
 unfolding takenHead
-returns-2 c = (rw (← c .before .before .before .before .before .before .before .find .ensures, c .before .before .before .before .before .head .given .1, ← c .before .before .before .read .ensures, ← c .before .before .find2 .ensures, c .enum-told2 .given .1), tt)
+returns-2 c = rw (← c .before .before .before .before .before .before .before .find .ensures, c .before .before .before .before .before .head .given .1, ← c .before .before .before .read .ensures, ← c .before .before .find2 .ensures, c .enum-told2 .given .1)
 
 returns-3 : tie.Need-returns-3
 unfolding takenHead
 returns-3 c =
-    let p = c .before .before .before .before .before in
-    let s = c .before .before .before .before .before .before .before .before .before .before .before .before .before .before .before in (
-      rw (← c .before .before .before .before .before .before .before .before .before .before .before .before .find .ensures, c .before .before .before .before .before .before .before .before .before .before .head .given .1, ← c .before .before .before .before .before .before .before .before .read .ensures, ← c .before .before .before .before .before .before .before .find2 .ensures, p .buffer .given .1, ← part-lent)
-          (c .take-chunk .ensures .0),
-      spot-taken 48 (length (s .args .heap .now)) (length (s .args .records .now)) (s .args .grant) _ (c .take-chunk .result)
-          record { ready = record { long = refl; opened = s .pre .0; buffer = found p; own = own (c .before .before .before .before .before .before .before .before .before .before) }; granted = s .pre .1 }
-          (c .take-chunk .ensures .1),
-    )
+    let b = c .before .before .before .before .before in
+    let h = b .before .before .before .before .before in
+    rw (
+      ← h .before .before .find .ensures,
+      h .head .given .1,
+      ← b .before .before .before .read .ensures,
+      ← b .before .before .find2 .ensures,
+      b .buffer .given .1,
+      ← part-lent,
+    ) (c .take-chunk .ensures)
 
 pub take-head-spec : {M : Type 1} → statement M
 take-head-spec =

@@ -53,11 +53,13 @@ use Rattle.tags.proofs.verdict.Verdict as S
 use Rattle.tags.proofs.verdict.Verdict.Laws as S′
 use Rattle.image.specs.Inspect.{inspectOf}
 use Rattle.image.specs.declared.inspect.Finding.{Finding}
-use Rattle.image.specs.declared.inspect.Inspected.{Inspected}
+use Rattle.area.specs.Filling.{Filling, filling}
+use Rattle.area.specs.declared.refusal.Answer.{Answer}
+use Rattle.opening.specs.Areas.{lent}
 use Rattle.image.proofs.inspect.Finding as T
 use Rattle.image.proofs.inspect.Finding.Laws as T′
-use Rattle.image.proofs.inspect.Inspected as I
-use Rattle.image.proofs.inspect.Inspected.Laws as I′
+use Rattle.area.proofs.refusal.Answer as I
+use Rattle.area.proofs.refusal.Answer.Laws as I′
 use Rattle.image.proofs.inspect.inspect as inspect
 use Rattle.image.proofs.inspect.inspect.Symbol as inspect-def
 use Rattle.image.proofs.inspect.inspect.Symbol.{name as #image·inspect·inspect}
@@ -116,17 +118,20 @@ module _ {M : Type 1} (𝓤 : URA M) (H : Heap 𝓤) (A : Atoms 𝓤) (W : Given
   at = (sv ∷ [], (hv ∷ [], (rv ∷ [], (vint w64 k ∷ [], tt))))
 
   -- what `inspect` answers, the array after the call, the element that is read, and the result
-  abbrev ans : Inspected
-  ans = inspectOf (sh .now) (hp .now) (rc .now) blanks .answer
+  abbrev seen-all : Filling Answer Finding
+  seen-all = inspectOf (lent sh hp rc) blanks
+
+  abbrev ans : Answer
+  ans = seen-all .answer
 
   abbrev zs : List Finding
-  zs = inspectOf (sh .now) (hp .now) (rc .now) blanks .rows
+  zs = seen-all .rows
 
   abbrev elem : Finding
   elem = getD zs k blank
 
   abbrev seen : Seen
-  seen = seenOf (sh .now) (hp .now) (rc .now) k
+  seen = seenOf (lent sh hp rc) k
 
   abbrev Post : Val → SProp 𝓤
   Post = walkOf 𝓤 H A outer.ended stayed (outer.clauses 𝓤 H A mem₀ run) .post (((κ₀, (κ₁, (κ₂, tt))), (q₀, (q₁, (q₂, tt))), tt, a, at), tt)
@@ -229,15 +234,15 @@ module _ {M : Type 1} (𝓤 : URA M) (H : Heap 𝓤) (A : Atoms 𝓤) (W : Given
         move ! (33 ∷ 32 ∷ 0 ∷ 2 ∷ []) $ group ! 4 $ use1 W (raw (Inspect 𝓤 H A mem₀ run .pre (to l₅ ν γ)) ⊛ Areas) (goes l₅ ν γ) $ split ! $
         -- [what `inspect` asks; what the areas own; the lender's part; _14; …]
         calls-at ! fm (Inspect 𝓤 H A mem₀ run) known (to l₅ ν γ) (and-then ! (load ! (from ! (stop !)) (look ! 28 refl)) (and-then ! (load ! (from ! (stop !)) (look ! 26 refl)) (and-then ! (load ! (from ! (stop !)) (look ! 24 refl)) (and-then ! (load ! (from ! (stop !)) (look ! 9 refl)) (no-more !))))) (λ u.
-        use1 W (later (some (λ (r : Inspected). (AllTokens ν ⊛ ‵ (I.the-row .own r (u ∷ []))) ⊛ raw (ensured 𝓤 H A inspect.ended (inspect.clauses 𝓤 H A mem₀ run) (κs ν) (to-a l₅ γ) tt r)))) (id⊢ 𝓤 _) $ await ! tt $ pick ! (λ r.
-        split ! $ move ! (1 ∷ []) $ use1 W (some (λ (ws : Lasts). ‵ (lasts inspect.ended (κs ν) (to-a l₅ γ) ws) ⊛ raw (fact 𝓤 (r ≡ ans)) ⊛ raw (fact 𝓤 (ws .1 .1 .1 .0 ≡ zs)))) (id⊢ 𝓤 _) $ pick ! (λ ws.
-        split ! $ use1 W (‵ (finally T.the-row γ (ws .1 .1 .1 .0))) (last-rows l₅ ν γ ws) $ move ! (1 ∷ []) $ split ! $ heard ! (r ≡ ans) (λ e. heard ! (ws .1 .1 .1 .0 ≡ zs) (λ f.
+        use1 W (later (some (λ (r : Answer). (AllTokens ν ⊛ ‵ (I.the-row .own r (u ∷ []))) ⊛ raw (ensured 𝓤 H A inspect.ended (inspect.clauses 𝓤 H A mem₀ run) (κs ν) (to-a l₅ γ) tt r)))) (id⊢ 𝓤 _) $ await ! tt $ pick ! (λ r.
+        split ! $ move ! (1 ∷ []) $ use1 W (some (λ (ws : Lasts). ‵ (lasts inspect.ended (κs ν) (to-a l₅ γ) ws) ⊛ raw (fact 𝓤 (filling r (ws .1 .1 .1 .0) ≡ seen-all)))) (id⊢ 𝓤 _) $ pick ! (λ ws.
+        split ! $ use1 W (‵ (finally T.the-row γ (ws .1 .1 .1 .0))) (last-rows l₅ ν γ ws) $ move ! (1 ∷ []) $ heard ! (filling r (ws .1 .1 .1 .0) ≡ seen-all) (λ told.
         -- [the last list; the tokens and the result; what the areas own; the lender's part; _14; …]
-        move ! (1 ∷ []) $ split ! $ move ! (1 ∷ []) $ rewrite ! 0 (λ (i : Inspected). ‵ (I.the-row .own i (u ∷ []))) e refl $ peeks ! I.the-row (Is I.the-row) (shows 𝓤 H A I.the-row) ans (u ∷ []) (λ is-u. drop ! $
+        move ! (1 ∷ []) $ split ! $ move ! (1 ∷ []) $ rewrite ! 0 (λ (i : Answer). ‵ (I.the-row .own i (u ∷ []))) (ap (λ (z : Filling Answer Finding). z .answer) told) refl $ peeks ! I.the-row (Is I.the-row) (shows 𝓤 H A I.the-row) ans (u ∷ []) (λ is-u. drop ! $
         land ! (from ! (stop !)) (init ! 20 refl (EL.lawful I.the-type I′.the-laws 𝓤 H A W tt .typed ans _ is-u .0)) $
         rewrite ! 20 (λ (v : Val). ‵ (fat fullShare I′.mir l₆ 0 v)) (ap only (EL.tells I.the-type I′.the-laws ans _ is-u)) refl $
         -- the lifetime is ended, and the array is back at the list that `inspect` ensures
-        split ! $ move ! (1 ∷ []) $ split ! $ move ! (1 ∷ []) $ split ! $ move ! (1 ∷ []) $ split ! $ lft-end ! tt $ rewrite ! 5 (λ (ys : List Finding). ‵ (finally T.the-row γ ys)) f refl $ move ! (0 ∷ 7 ∷ 5 ∷ []) $
+        split ! $ move ! (1 ∷ []) $ split ! $ move ! (1 ∷ []) $ split ! $ move ! (1 ∷ []) $ split ! $ lft-end ! tt $ rewrite ! 5 (λ (ys : List Finding). ‵ (finally T.the-row γ ys)) (ap (λ (z : Filling Answer Finding). z .rows) told) refl $ move ! (0 ∷ 7 ∷ 5 ∷ []) $
         use3 W (later (‵ (Arr (mem T.the-row) 4 .lies zs l₅ 0))) (slice-back 𝓤 H A W T.the-row (ν ∷ []) γ zs 4 l₅ 0) $ await ! tt $ fsplit ! $ feqL ! (λ long. use1 W (‵ (row T.the-row fullShare zs l₅ 0)) (whole-out 𝓤 H A W T.the-row zs l₅ 0) $
         move ! (2 ∷ 1 ∷ []) $ join ! $ move ! (2 ∷ 0 ∷ []) $ join ! $ move ! (2 ∷ 0 ∷ []) $ join ! $ move ! (1 ∷ []) $
         -- [the row; the tokens; what the areas own; _14; …; _6; …; that _5 dies; _4; …; _0; …]
@@ -254,7 +259,7 @@ module _ {M : Type 1} (𝓤 : URA M) (H : Heap 𝓤) (A : Atoms 𝓤) (W : Given
         -- [room for _5; the tokens; what the areas own; _14; …; _6; …; that _5 dies; _4; …; _0; …]
         returns ! (look ! 30 refl) $ forget ! 3 refl $ forget ! 5 refl $ forget ! 7 refl $ forget ! 9 refl $ forget ! 11 refl $ forget ! 13 refl $ forget ! 15 refl $ forget ! 17 refl $ forget ! 19 refl $ forget ! 22 refl $ forget ! 24 refl $ forget ! 26 refl $ forget ! 28 refl $ forget ! 30 refl $
         move ! (30 ∷ 31 ∷ []) $ free1 ! $ move ! (28 ∷ 29 ∷ []) $ free1 ! $ move ! (26 ∷ 27 ∷ []) $ free1 ! $ move ! (24 ∷ 25 ∷ []) $ free1 ! $ move ! (22 ∷ 23 ∷ []) $ free1 ! $ move ! (0 ∷ 21 ∷ []) $ free1 ! $ move ! (18 ∷ 19 ∷ []) $ free1 ! $ move ! (16 ∷ 17 ∷ []) $ free1 ! $
-        move ! (14 ∷ 15 ∷ []) $ free1 ! $ move ! (12 ∷ 13 ∷ []) $ free1 ! $ move ! (10 ∷ 11 ∷ []) $ free1 ! $ move ! (8 ∷ 9 ∷ []) $ free1 ! $ move ! (6 ∷ 7 ∷ []) $ free1 ! $ move ! (4 ∷ 5 ∷ []) $ free1 ! $ move ! (2 ∷ 3 ∷ []) $ free1 ! $ free0 ! $ by ! (exits (is-seen u is-u is)))))))))))))))))))))))))))
+        move ! (14 ∷ 15 ∷ []) $ free1 ! $ move ! (12 ∷ 13 ∷ []) $ free1 ! $ move ! (10 ∷ 11 ∷ []) $ free1 ! $ move ! (8 ∷ 9 ∷ []) $ free1 ! $ move ! (6 ∷ 7 ∷ []) $ free1 ! $ move ! (4 ∷ 5 ∷ []) $ free1 ! $ move ! (2 ∷ 3 ∷ []) $ free1 ! $ free0 ! $ by ! (exits (is-seen u is-u is))))))))))))))))))))))))))
       where
         here : length zs ≡ 4 → k < length zs
         here long = subst (λ (m : ℕ). k < m) (sym long) within

@@ -1,57 +1,10 @@
--- The answer of the report, as one number. Assumes nothing.
-use mathlib.Core.Path.{_∙_, ap, sym, subst}
-use native.Mathlib.Omega.{arith}
+-- The output and the answer are those of the call below. Assumes nothing.
 use borrow.Author.Needs.{needs}
-use Rattle.capi.specs.Answer.{reportWord}
-use Rattle.report.specs.Answer.{ReportedIf}
 use Rattle.capi.proofs.reader.cg_report.Statement.{statement}
 use Rattle.capi.proofs.reader.cg_report.Tie as tie
 
-report-requires : tie.Need-report-requires
-report-requires c κs = search needs
-
-enum-known-r : tie.Need-enum-known-r
-enum-known-r c = search needs
-
-refused-requires : tie.Need-refused-requires
-refused-requires c κs = search needs
-
-enum-known-r-2 : tie.Need-enum-known-r-2
-enum-known-r-2 c = search needs
-
-cast-accepted : tie.Need-cast-accepted
-cast-accepted c = let h = subst (ReportedIf _) (c .before .r2 .given .1) (c .before .before .before .before .before .report .ensures .1 .1) .1 in omega arith
-
-accepted-requires : tie.Need-accepted-requires
-accepted-requires c κs = search needs
-
-same-length : tie.Need-same-length
-same-length c = search needs
-
 returns : tie.Need-returns
-returns c =
-    let i = c .before .before .before .before .before .before .report .ensures in
-    (c .refused .ensures ∙ ap reportWord (sym (c .before .before .r .given .1) ∙ i .0), i .1 .0)
-
-same-length-2 : tie.Need-same-length-2
-same-length-2 c = search needs
-
-returns-2 : tie.Need-returns-2
-returns-2 c =
-    let i = c .before .before .before .before .before .before .report .ensures in
-    (c .accepted .ensures ∙ ap reportWord (sym (c .before .before .r2 .given .1) ∙ i .0), i .1 .0)
+returns c = rw (← c .before .before .before .report .ensures, c .word .ensures)
 
 pub cg-report-spec : {M : Type 1} → statement M
-cg-report-spec =
-    tie.close
-    (tie.spec
-    report-requires
-    enum-known-r
-    refused-requires
-    enum-known-r-2
-    cast-accepted
-    accepted-requires
-    same-length
-    returns
-    same-length-2
-    returns-2)
+cg-report-spec = tie.close (tie.spec (λ c κs. search needs) (λ c κs. search needs) (λ c. search needs) returns)

@@ -1,24 +1,17 @@
 -- The chunk is the one at the buffer's place. Assumes nothing.
-use mathlib.Core.Path.{refl, sym, _∙_, subst}
-use Prim.Native.Nat.{ℕ, _-_, _<_}
+use mathlib.Core.Path.{refl, sym, _∙_}
+use Prim.Native.Nat.{_-_, _<_}
 use native.Mathlib.Omega.{arith}
 use borrow.Author.Needs.{needs}
-use lib.ListN.{length}
 use Rattle.opening.proofs.Sheets.{chunk-inside, chunk-small, lent-long}
 use Rattle.area.proofs.Places.{place-found}
-use Rattle.holding.specs.Holding.{heldAt, HeldIf}
+use Rattle.holding.specs.Holding.{heldAt}
 use Rattle.words.proofs.Parts.{part-lent}
 use Rattle.holding.proofs.holding.held_at.Statement.{statement}
 use Rattle.holding.proofs.holding.held_at.Tie as tie
 
-find-requires : tie.Need-find-requires
-find-requires c κs = search needs
-
 enum-told : tie.Need-enum-told
 enum-told c = search needs
-
-enum-known-p : tie.Need-enum-known-p
-enum-known-p c = search needs
 
 -- the buffer is one of the image's
 found : (c : tie.After-p) → c .p .given .0 .0 < c .before .before .before .before .before .args .g .count
@@ -29,12 +22,6 @@ mul-at c = let s = c .before .before .before .before .before .before .before in 
 
 add-end : tie.Need-add-end
 add-end c = let s = c .before .before .before .before .before .before .before .before in let k = chunk-small (s .args .g) (s .pre .law) _ (found (c .before .before .before)) in omega arith
-
-sub-held-chunk : tie.Need-sub-held-chunk
-sub-held-chunk c = search needs
-
-part-held-chunk-start : tie.Need-part-held-chunk-start
-part-held-chunk-start c = search needs
 
 part-held-chunk-end : tie.Need-part-held-chunk-end
 part-held-chunk-end c = let s = c .before .before .before .before .before .before .before .before in let k = chunk-inside (s .args .g) (s .pre .law) _ (found (c .before .before .before)) in let e = s .pre .heapLong in omega arith
@@ -47,28 +34,25 @@ held-chunk-requires c κs =
 
 returns : tie.Need-returns
 unfolding heldAt
-returns c = (rw (← c .before .before .find .ensures, c .enum-told .given .1), tt)
+returns c = rw (← c .before .before .find .ensures, c .enum-told .given .1)
 
 returns-2 : tie.Need-returns-2
 unfolding heldAt
 returns-2 c =
     let p = c .before .before .before .before .before in
-    let s = p .before .before .before .before .before in (
-      rw (← p .before .before .find .ensures, p .p .given .1, ← part-lent) (c .held-chunk .ensures .0),
-      subst (λ (n : ℕ). HeldIf 48 n (length (s .args .records .now)) (c .held-chunk .result)) (sym (s .pre .heapLong)) (c .held-chunk .ensures .1),
-    )
+    rw (← p .before .before .find .ensures, p .p .given .1, ← part-lent) (c .held-chunk .ensures)
 
 pub held-at-spec : {M : Type 1} → statement M
 held-at-spec =
     tie.close
     (tie.spec
-    find-requires
+    (λ c κs. search needs)
     enum-told
-    enum-known-p
+    (λ c. search needs)
     mul-at
     add-end
-    sub-held-chunk
-    part-held-chunk-start
+    (λ c. search needs)
+    (λ c. search needs)
     part-held-chunk-end
     held-chunk-requires
     returns

@@ -3,26 +3,8 @@ use borrow.Author.Needs.{needs}
 use Rattle.holding.proofs.holding.held_by.Statement.{statement}
 use Rattle.holding.proofs.holding.held_by.Tie as tie
 
-read-tag-requires : tie.Need-read-tag-requires
-read-tag-requires c κs = search needs
-
-pattern-requires : tie.Need-pattern-requires
-pattern-requires c κs = search needs
-
 enum-told : tie.Need-enum-told
 enum-told c = search needs
-
-enum-told-2 : tie.Need-enum-told-2
-enum-told-2 c = search needs
-
-enum-told-3 : tie.Need-enum-told-3
-enum-told-3 c = search needs
-
-judge-allocated-requires : tie.Need-judge-allocated-requires
-judge-allocated-requires c κs = search needs
-
-held-as-requires : tie.Need-held-as-requires
-held-as-requires c κs = search needs
 
 returns : tie.Need-returns
 returns c = rw (← c .before .before .before .read-tag .ensures, ← c .before .before .pattern .ensures, c .enum-told .given .1)
@@ -37,13 +19,13 @@ pub held-by-spec : {M : Type 1} → statement M
 held-by-spec =
     tie.close
     (tie.spec
-    read-tag-requires
-    pattern-requires
+    (λ c κs. search needs)
+    (λ c κs. search needs)
     enum-told
-    enum-told-2
-    enum-told-3
-    judge-allocated-requires
-    held-as-requires
+    (λ c. search needs)
+    (λ c. search needs)
+    (λ c κs. search needs)
+    (λ c κs. search needs)
     returns
     returns-2
     returns-3)

@@ -1,56 +1,53 @@
 -- What the plan found is written; a refusal writes nothing. Assumes nothing.
-use mathlib.Core.Path.{refl, subst}
+use mathlib.Core.Path.{sym, _∙_}
 use native.Mathlib.Omega.{arith}
 use borrow.Author.Needs.{needs}
-use Rattle.holding.specs.Store.{storeOf, storedAreas, StoreIf}
+use Rattle.holding.specs.Store.{storeOf, storedAreas}
+use Rattle.holding.proofs.Holdings.{Client, client-inside, held-known, stored-held}
+use Rattle.chunks.specs.Chunk.{grantSize}
+use Prim.Native.Nat.{_+_, _≤_}
+use lib.ListN.{length}
 use Rattle.holding.proofs.store.store.Statement.{statement}
 use Rattle.holding.proofs.store.store.Tie as tie
 
-plan-requires : tie.Need-plan-requires
-plan-requires c κs = search needs
-
-enum-known-h : tie.Need-enum-known-h
-enum-known-h c = search needs
-
-enum-known-h-2 : tie.Need-enum-known-h-2
-enum-known-h-2 c = search needs
+-- the bytes lie in the client's, and those in the heap
+fits : (c : tie.After-h2) → let s = c .before .before .before .before .before .before .before .before in
+    let p = c .h2 .given .0 .0 in
+    Client (length (s .args .heap .now)) p × (s .args .offset + length (s .args .bytes .now) ≤ grantSize (p .sheet .size) (p .grant))
+fits c =
+    let k = stored-held _ _ _ _ _ (sym (c .before .before .plan .ensures) ∙ c .h2 .given .1) in
+    (client-inside _ _ _ _ (held-known _ _ _ (k .0) .holds), k .1)
 
 mul-at : tie.Need-mul-at
-mul-at c = let k = subst (StoreIf _ _ _) (c .before .before .before .before .h2 .given .1) (c .before .before .before .before .before .before .plan .ensures .1) in omega (arith, k .1)
+mul-at c = omega (arith, fits (c .before .before .before .before) .0 .small)
 
 add-write-run : tie.Need-add-write-run
-add-write-run c = let k = subst (StoreIf _ _ _) (c .before .before .before .before .before .h2 .given .1) (c .before .before .before .before .before .before .before .plan .ensures .1) in omega (arith, k .1, c .before .before .before .before .before .before .before .before .before .before .before .before .before .fits .offset .fits)
+add-write-run c = let k = fits (c .before .before .before .before .before) in omega (arith, k .0 .small, k .0 .few, k .1)
 
 write-run-requires : tie.Need-write-run-requires
-write-run-requires c κs = let k = subst (StoreIf _ _ _) (c .before .before .before .before .before .h2 .given .1) (c .before .before .before .before .before .before .before .plan .ensures .1) in omega (arith, k .0)
-
-same-length : tie.Need-same-length
-same-length c = search needs
+write-run-requires c κs = let k = fits (c .before .before .before .before .before) in omega (arith, k .0 .inside, k .1)
 
 returns : tie.Need-returns
 unfolding storeOf
-returns c = rw (← c .before .before .before .plan .ensures .0, c .before .h .given .1) (refl, refl)
-
-same-length-2 : tie.Need-same-length-2
-same-length-2 c = search needs
+returns c = rw (← c .before .before .before .plan .ensures, c .before .h .given .1)
 
 returns-2 : tie.Need-returns-2
 unfolding storeOf storedAreas
 returns-2 c =
     let o = c .before .before .before .before .before .before .before .before in
-    rw (← o .before .before .plan .ensures .0, o .h2 .given .1) (refl, c .before .before .write-run .ensures)
+    rw (← o .before .before .plan .ensures, o .h2 .given .1, c .before .before .write-run .ensures)
 
 pub store-spec : {M : Type 1} → statement M
 store-spec =
     tie.close
     (tie.spec
-    plan-requires
-    enum-known-h
-    enum-known-h-2
+    (λ c κs. search needs)
+    (λ c. search needs)
+    (λ c. search needs)
     mul-at
     add-write-run
     write-run-requires
-    same-length
+    (λ c. search needs)
     returns
-    same-length-2
+    (λ c. search needs)
     returns-2)

@@ -51,10 +51,11 @@ use denote.Triple.Clauses.{ensured, lasts}
 use denote.Triple.Entry.{onEntry}
 use denote.Triple.Spec.{Meets, tripleOf}
 use denote.Triple.Table.{entered, cited}
-use denote.Triple.Walked.{Stays, stay-slice, stay-none-slice, walkOf, goes-slice, goes-none-slice, Walks, ends-at, walked, walk-meets}
+use denote.Triple.Walked.{Stays, stay-slice, stay-none-slice, walkOf, goes-slice, goes-none-slice, Walks, ends-at, walked, walk-meets, says}
 use denote.Exit.{yes}
 use borrow.Author.Tests.{lt-ltb, le-ltb}
-use Rattle.image.specs.Inspect.{Inspection, filled, foundBy, Begins}
+use Rattle.opening.specs.Areas.{lent}
+use Rattle.image.specs.Inspect.{filled, foundBy, Begins}
 use Rattle.image.specs.declared.inspect.Finding.{Finding}
 use Rattle.image.specs.declared.inspect.Begun.{Begun}
 use Rattle.image.proofs.Findings.{filled-length}
@@ -65,8 +66,8 @@ use Rattle.image.proofs.inspect.Begun as B
 use Rattle.image.proofs.inspect.Begun.Laws as B′
 use Rattle.image.proofs.inspect.Start as S
 use Rattle.image.proofs.inspect.Start.Laws as S′
-use Rattle.image.proofs.inspect.Inspected as I
-use Rattle.image.proofs.inspect.Inspected.Laws as I′
+use Rattle.area.proofs.refusal.Answer as I
+use Rattle.area.proofs.refusal.Answer.Laws as I′
 use Rattle.image.proofs.inspect.begin as begin
 use Rattle.image.proofs.inspect.begin.Symbol as begin-def
 use Rattle.image.proofs.inspect.begin.Symbol.{name as #image·inspect·begin}
@@ -214,7 +215,7 @@ module _ {M : Type 1} (𝓤 : URA M) (H : Heap 𝓤) (A : Atoms 𝓤) (W : Given
 
   -- what `begin` says of its result
   abbrev Told : Begun → Type 0
-  Told r = Begins (sh .now) (hp .now) (rc .now) (length ys) r
+  Told r = Begins (lent sh hp rc) (length ys) r
 
   -- ---- the call of `begin`
   abbrev begin-a : RefT (List ℕ) × (RefT (List ℕ) × (RefT (List ℕ) × (ℕ × Unit {0})))
@@ -259,7 +260,7 @@ module _ {M : Type 1} (𝓤 : URA M) (H : Heap 𝓤) (A : Atoms 𝓤) (W : Given
     exits is-answer =
         qed W (‵ (Obs (filled found ys n)) ∷ ‵ (fbor κ₃ (Held T.the-row (length (filled found ys n)) b o γ)) ∷ ‵ (flft κ₀ q₀) ∷ ‵ (flft κ₁ q₁) ∷ ‵ (flft κ₂ q₂) ∷ ‵ (flft κ₃ q₃) ∷ ‵ SheetOwn ∷ ‵ HeapOwn ∷ ‵ RecordsOwn ∷ []) ∵
         suffices ! _ (ends-at 𝓤 H A outer.ended stayed (outer.clauses 𝓤 H A mem run) W ((κs, (q₀, (q₁, (q₂, (q₃, tt)))), tt, a, at), tt) (EL.val I.the-type I′.the-laws (r .start .answer)) (r .start .answer) (tt, (tt, (tt, (filled found ys n, tt)))) (tt, (tt, (tt, (filled-length found ys n, tt))))) $
-        says-both ! (sym (ap (λ (z : Inspection). z .answer) (told .tells ys refl))) (sym (ap (λ (z : Inspection). z .rows) (told .tells ys refl))) $
+        says ! (sym (told .tells ys refl)) $
         nothing ! $ move ! (6 ∷ 0 ∷ []) $ join ! $ move ! (5 ∷ 0 ∷ []) $ join ! $ move ! (4 ∷ 0 ∷ []) $ join ! $ move ! (3 ∷ 0 ∷ []) $ join ! $ frame ! $
         -- [obs; the borrow; what the other areas own]: with the fact on the machine value it is what the slice owns
         fjoin ! $ pureI ! (at-slice T.the-row (x (filled found ys n)) (s ∷ [])) (tt, (tt, tt)) (ap (λ (m : ℕ). sliceVal (b, o) m ∷ []) (sym (filled-length found ys n)), subst (Room T.the-row) (sym (filled-length found ys n)) room) $ fjoin ! $

@@ -10,9 +10,6 @@ use Rattle.image.proofs.Findings.{ready, table-is}
 use Rattle.image.proofs.inspect.survey_open.Statement.{statement}
 use Rattle.image.proofs.inspect.survey_open.Tie as tie
 
-note-requires : tie.Need-note-requires
-note-requires c κs = search needs
-
 judge-rows-requires : tie.Need-judge-rows-requires
 judge-rows-requires c κs =
     let s = c .before .before .before .before .before .before .before .before .before .before in
@@ -20,9 +17,6 @@ judge-rows-requires c κs =
     let n = c .before .before .before .before .before .before .note in
     subst (λ (x : Start). Ready (length (a .heap .now)) x (n .result .pairs) × (x .count * 3 ≤ length (a .rows .now))) (sym (n .ensures .0))
     (ready (length (a .heap .now)) (a .g) (a .records .now) (n .result .pairs) (s .pre .0) (n .ensures .1 .0), s .pre .1)
-
-same-length : tie.Need-same-length
-same-length c = search needs
 
 returns : tie.Need-returns
 returns c =
@@ -36,4 +30,4 @@ returns c =
     )
 
 pub survey-open-spec : {M : Type 1} → statement M
-survey-open-spec = tie.close (tie.spec note-requires judge-rows-requires same-length returns)
+survey-open-spec = tie.close (tie.spec (λ c κs. search needs) judge-rows-requires (λ c. search needs) returns)

@@ -11,11 +11,11 @@ measure-requires c κs = lawful-known _ (sym (c .before .is-lawful .ensures) ∙
 
 returns : tie.Need-returns
 unfolding numbered
-returns c = (rw (← c .before .before .is-lawful .ensures, c .before .if1 .taken) (c .measure .ensures .0), c .measure .ensures .1)
+returns c = rw (← c .before .before .is-lawful .ensures, c .before .if1 .taken) (c .measure .ensures)
 
 returns-2 : tie.Need-returns-2
 unfolding numbered
-returns-2 c = (rw (← c .before .is-lawful .ensures, c .if1 .left), tt)
+returns-2 c = rw (← c .before .is-lawful .ensures, c .if1 .left)
 
 pub judge-numbers-spec : {M : Type 1} → statement M
 judge-numbers-spec = tie.close (tie.spec (λ c κs. search needs) measure-requires returns returns-2)

@@ -1,26 +1,25 @@
 -- The image is opened as without a log, and then the log's length is tested. Assumes nothing.
-use mathlib.Core.Path.{subst}
 use borrow.Author.Tests.{eq-eqb, ne-eqb, le-leb, lt-leb}
 use borrow.Author.Needs.{needs}
-use Rattle.opening.specs.Sheet.{openedWithLog, OpenedIf}
+use Rattle.opening.specs.Sheet.{openedWithLog}
 use Rattle.opening.proofs.sheet.open_with_log.Statement.{statement}
 use Rattle.opening.proofs.sheet.open_with_log.Tie as tie
 
 returns : tie.Need-returns
 unfolding openedWithLog
-returns c = (rw (← c .before .before .before .before .«open» .ensures .0, c .before .before .opened2 .given .1, ne-eqb _ _ (c .if1 .taken)), tt)
+returns c = rw (← c .before .before .before .before .«open» .ensures, c .before .before .opened2 .given .1, ne-eqb _ _ (c .if1 .taken))
 
 returns-2 : tie.Need-returns-2
 unfolding openedWithLog
-returns-2 c = (rw (← c .before .before .before .before .before .«open» .ensures .0, c .before .before .before .opened2 .given .1, eq-eqb _ _ (c .before .if1 .left), lt-leb _ _ (c .if2 .taken)), tt)
+returns-2 c = rw (← c .before .before .before .before .before .«open» .ensures, c .before .before .before .opened2 .given .1, eq-eqb _ _ (c .before .if1 .left), lt-leb _ _ (c .if2 .taken))
 
 returns-3 : tie.Need-returns-3
 unfolding openedWithLog
-returns-3 c = (rw (← c .before .before .before .«open» .ensures .0, c .before .opened .given .1), tt)
+returns-3 c = rw (← c .before .before .before .«open» .ensures, c .before .opened .given .1)
 
 returns-4 : tie.Need-returns-4
 unfolding openedWithLog
-returns-4 c = (rw (← c .before .before .before .before .before .«open» .ensures .0, c .before .before .before .opened2 .given .1, eq-eqb _ _ (c .before .if1 .left), le-leb _ _ (c .if2 .left)), (subst (OpenedIf _ _) (c .before .before .before .opened2 .given .1) (c .before .before .before .before .before .«open» .ensures .1), c .if2 .left))
+returns-4 c = rw (← c .before .before .before .before .before .«open» .ensures, c .before .before .before .opened2 .given .1, eq-eqb _ _ (c .before .if1 .left), le-leb _ _ (c .if2 .left))
 
 pub open-with-log-spec : {M : Type 1} → statement M
 open-with-log-spec =

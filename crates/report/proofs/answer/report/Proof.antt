@@ -4,44 +4,41 @@ use native.Mathlib.Omega.{arith}
 use borrow.Author.Needs.{needs}
 use lib.Dec.{lit≤}
 use Rattle.report.proofs.Surveys.{report-refused, report-image}
-use Rattle.report.specs.Answer.{Reporting, reportedBy}
 use Rattle.lines.specs.Text.{WrittenIf}
-use Rattle.image.specs.Inspect.{SurveyedIf}
+use Rattle.image.specs.Inspect.{Surveying}
+use Rattle.image.proofs.Findings.{survey-few}
 use Rattle.report.proofs.answer.report.Statement.{statement}
 use Rattle.report.proofs.answer.report.Tie as tie
 
 write-report-requires : tie.Need-write-report-requires
 write-report-requires c κs =
-    let s = c .before .before .before .before .before .before .survey in
-    let k = subst SurveyedIf (c .before .before .before .surveyed2 .given .1) (s .ensures .1 .1) in
-    (k .few, omega (arith, s .kept))
+    let v = c .before .before .before in
+    let s = v .before .before .before .survey in
+    let few = survey-few _ _ _ _ (ap (λ (x : Surveying). x .answer) (sym (s .ensures)) ∙ v .surveyed2 .given .1) in
+    (few, omega (arith, s .kept, few))
 
 enum-told : tie.Need-enum-told
 enum-told c = search needs
 
+cast-t22 : tie.Need-cast-t22
+cast-t22 c = let w = c .before .before .before .before .before .write-report in let k = subst (WrittenIf _) (c .before .written .given .1) (w .ensures .1 .1) in omega (arith, k .1)
+
 returns : tie.Need-returns
 returns c =
     let s = c .before .before .before .before .survey in
-    let e = report-refused _ _ _ _ _ _ (lit≤ tt) _ (sym (s .ensures .0) ∙ c .before .surveyed .given .1) in
-    (ap (λ (x : Reporting). x .answer) (sym e), (ap (λ (x : Reporting). x .output) (sym e), tt))
+    sym (report-refused _ _ _ _ (lit≤ tt) _ (ap (λ (x : Surveying). x .answer) (sym (s .ensures)) ∙ c .before .surveyed .given .1))
 
 returns-2 : tie.Need-returns-2
 returns-2 c =
-    let s = c .before .before .before .before .before .before .before .before .before .before .before .survey in
     let w = c .before .before .before .before .write-report in
-    let e = report-image _ _ _ _ _ _ (lit≤ tt) _ _ (sym (s .ensures .0) ∙ c .before .before .before .before .before .before .before .before .surveyed2 .given .1) (s .ensures .1 .0) in (
-      sym (ap (λ (x : Reporting). x .answer) e ∙ ap reportedBy (sym (w .ensures .0) ∙ c .enum-told .given .1)),
-      (w .ensures .1 .0 ∙ ap (λ (x : Reporting). x .output) (sym e), tt),
-    )
+    let v = c .before .before .before .before .before .before .before .before in
+    rw (report-image _ _ _ _ (lit≤ tt) _ _ _ (v .before .before .before .survey .ensures) (v .surveyed2 .given .1), ← w .ensures .0, c .enum-told .given .1, w .ensures .1 .0)
 
 returns-3 : tie.Need-returns-3
 returns-3 c =
-    let s = c .before .before .before .before .before .before .before .before .before .before .before .before .survey in
     let w = c .before .before .before .before .before .write-report in
-    let e = report-image _ _ _ _ _ _ (lit≤ tt) _ _ (sym (s .ensures .0) ∙ c .before .before .before .before .before .before .before .before .before .surveyed2 .given .1) (s .ensures .1 .0) in (
-      sym (ap (λ (x : Reporting). x .answer) e ∙ ap reportedBy (sym (w .ensures .0) ∙ c .before .written .given .1)),
-      (w .ensures .1 .0 ∙ ap (λ (x : Reporting). x .output) (sym e), subst (WrittenIf _) (c .before .written .given .1) (w .ensures .1 .1)),
-    )
+    let v = c .before .before .before .before .before .before .before .before .before in
+    rw (report-image _ _ _ _ (lit≤ tt) _ _ _ (v .before .before .before .survey .ensures) (v .surveyed2 .given .1), ← w .ensures .0, c .before .written .given .1, w .ensures .1 .0)
 
 pub report-spec : {M : Type 1} → statement M
 report-spec =
@@ -55,6 +52,7 @@ report-spec =
     write-report-requires
     enum-told
     (λ c. search needs)
+    cast-t22
     returns
     (λ c. search needs)
     returns-2

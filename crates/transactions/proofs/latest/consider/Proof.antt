@@ -5,24 +5,9 @@ use Rattle.transactions.specs.Latest.{considered}
 use Rattle.transactions.proofs.latest.consider.Statement.{statement}
 use Rattle.transactions.proofs.latest.consider.Tie as tie
 
-mul-at : tie.Need-mul-at
-mul-at c = search needs
-
-read-u32-requires : tie.Need-read-u32-requires
-read-u32-requires c κs = search needs
-
 returns : tie.Need-returns
 unfolding considered
 returns c = rw (← c .before .read-u32 .ensures, ne-eqb _ _ (c .if1 .taken))
-
-add-read-u32 : tie.Need-add-read-u32
-add-read-u32 c = search needs
-
-read-u32-requires-2 : tie.Need-read-u32-requires-2
-read-u32-requires-2 c κs = search needs
-
-age-requires : tie.Need-age-requires
-age-requires c κs = search needs
 
 returns-2 : tie.Need-returns-2
 unfolding considered
@@ -36,11 +21,11 @@ pub consider-spec : {M : Type 1} → statement M
 consider-spec =
     tie.close
     (tie.spec
-    mul-at
-    read-u32-requires
+    (λ c. search needs)
+    (λ c κs. search needs)
     returns
-    add-read-u32
-    read-u32-requires-2
-    age-requires
+    (λ c. search needs)
+    (λ c κs. search needs)
+    (λ c κs. search needs)
     returns-2
     returns-3)

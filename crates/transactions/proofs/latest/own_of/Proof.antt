@@ -1,9 +1,7 @@
 -- The mark of the buffer says its own record. Assumes nothing.
-use mathlib.Core.Path.{refl, sym, _∙_, subst}
+use mathlib.Core.Path.{refl, sym, _∙_}
 use native.Mathlib.Omega.{arith}
 use borrow.Author.Needs.{needs}
-use Rattle.verdicts.specs.Pairing.{OwnIf}
-use Rattle.verdicts.proofs.Pairs.{paired-in}
 use Rattle.transactions.proofs.latest.own_of.Statement.{statement}
 use Rattle.transactions.proofs.latest.own_of.Tie as tie
 
@@ -13,9 +11,7 @@ pair-requires c κs = let o = c .before .before .pre .0 in let l = o .law in (om
 returns : tie.Need-returns
 returns c =
     let s = c .before .before .before .before .before in
-    let g = s .args .g in
-    let p = c .before .before .pair .ensures .0 in
-    (c .own-record .ensures ∙ p (s .args .i) (s .pre .1), subst (OwnIf (g .count)) (sym (c .own-record .ensures)) (paired-in (s .args .records .now) (g .heap) (g .chunk) (g .count) (c .before .before .pair .last .1 .1 .1 .1 .1 .0) p (s .args .i) (s .pre .1)))
+    c .own-record .ensures ∙ c .before .before .pair .ensures .0 (s .args .i) (s .pre .1)
 
 pub own-of-spec : {M : Type 1} → statement M
 own-of-spec = tie.close (tie.spec pair-requires (λ c. sym (c .before .pair .ensures .1)) (λ c κs. search needs) returns)

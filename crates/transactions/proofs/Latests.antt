@@ -1,0 +1,71 @@
+-- Where the latest transaction lies, by the equation of the answer alone. Assumes nothing.
+use mathlib.Core.Path.{_≡_, refl, subst}
+use mathlib.Core.List.{List}
+use Prim.Native.Nat.{ℕ, _+_, _*_, _/_, _≤_, _<_}
+use native.Mathlib.Omega.{arith}
+use lib.Dec.{eqb, ltb}
+use lib.ListN.{length}
+use Rattle.words.proofs.Tests.{by-test}
+use Rattle.area.specs.Record.{recordSize, recordWord, stampHighAt, stampLowAt}
+use Rattle.area.specs.declared.place.Place.{Place}
+use Rattle.area.specs.declared.place.Place.the-variants as place
+use Rattle.area.specs.declared.refusal.Refusal.the-variants.{Damage}
+use Rattle.tags.specs.declared.verdict.Verdict.the-variants.{NotOneRecord}
+use Rattle.opening.specs.Areas.{Areas, bufferAddress, recordAddress}
+use Rattle.opening.specs.Sheet.{Open, openedWithLog}
+use Rattle.opening.specs.declared.sheet.Sheet.{Sheet}
+use Rattle.opening.proofs.Opens.{logged-known, by-opened}
+use Rattle.opening.proofs.Sheets.{record-inside}
+use Rattle.verdicts.specs.Pairing.{ownOf, byOwn}
+use Rattle.verdicts.specs.declared.pairing.Own.{Own}
+use Rattle.verdicts.specs.declared.pairing.Own.the-variants.{One, NotOne}
+use Rattle.verdicts.proofs.Pairs.{own-below}
+use Rattle.transactions.specs.Latest.{rowSize, latestRow, firstBest, rowOrRecord, ownedLatest, indexedLatest, latestOf}
+use Rattle.transactions.specs.declared.latest.Transaction.{Transaction}
+use Rattle.transactions.specs.declared.latest.Transaction.the-variants.{Row, Record, Refused}
+use Rattle.transactions.proofs.Transactions.{row-below}
+
+-- the row or the record lies in its area, of r or l bytes, and its number is small
+abbrev LatestIf : ℕ → ℕ → Transaction → Type 0
+LatestIf r l (Row k) = (k * rowSize + rowSize ≤ l) × (k < 1024)
+LatestIf r l (Record j) = (j * recordSize + recordSize ≤ r) × (j < 512)
+LatestIf r l (Refused why) = Unit {0}
+
+owned-if : (g : Sheet) (h : ℕ) (records log : List ℕ) (time j : ℕ) → Open h (length records) g → length log ≤ 16384 → j < g .count
+    → LatestIf (length records) (length log) (ownedLatest g records log time j)
+unfolding ownedLatest
+owned-if g h records log time j o few below =
+    by-test P (eqb (recordWord records j stampHighAt) 0) (λ t. go (latestRow log (recordAddress g j) time (firstBest (recordWord records j stampLowAt) time) (length log / rowSize) .row) refl) (λ t. tt)
+  where
+    P : Transaction → Type 0
+    P = LatestIf (length records) (length log)
+
+    go : (p : Place) → latestRow log (recordAddress g j) time (firstBest (recordWord records j stampLowAt) time) (length log / rowSize) .row ≡ p → P (rowOrRecord p j)
+    go (place.At k) e = let b = row-below _ _ _ _ _ _ e in (omega arith, omega arith)
+    go place.Nowhere e = let i = record-inside g (o .law) j below in (omega (arith, o .recordsLong), omega (arith, o .law .sizes .few))
+
+latest-if : (a : Areas) (log : List ℕ) (index time : ℕ) → LatestIf (length (a .records)) (length log) (latestOf a log index time)
+unfolding latestOf indexedLatest
+latest-if a log index time =
+    by-opened P (openedWithLog (a .sheet) (length (a .heap)) (length (a .records)) (length log))
+    (λ g e.
+    let o = logged-known (a .sheet) (length (a .heap)) (length (a .records)) (length log) g e in
+    by-test P (ltb index (g .count))
+    (λ t. go g (o .0 .opens) (o .1) (ownOf (a .records) (g .count) (bufferAddress g index)) refl)
+    (λ t. tt))
+    (λ why. tt)
+  where
+    P : Transaction → Type 0
+    P = LatestIf (length (a .records)) (length log)
+
+    go : (g : Sheet) → Open (length (a .heap)) (length (a .records)) g → length log ≤ 16384 → (w : Own) → ownOf (a .records) (g .count) (bufferAddress g index) ≡ w
+        → P (byOwn w (ownedLatest g (a .records) log time) (Refused (Damage NotOneRecord)))
+    go g o few (One j) e = owned-if g (length (a .heap)) (a .records) log time j o few (own-below _ _ _ _ e)
+    go g o few NotOne e = tt
+
+pub row-known : (a : Areas) (log : List ℕ) (index time k : ℕ) → latestOf a log index time ≡ Row k → (k * rowSize + rowSize ≤ length log) × (k < 1024)
+row-known a log index time k e = subst (LatestIf _ _) e (latest-if a log index time)
+
+pub record-known : (a : Areas) (log : List ℕ) (index time j : ℕ) → latestOf a log index time ≡ Record j
+    → (j * recordSize + recordSize ≤ length (a .records)) × (j < 512)
+record-known a log index time j e = subst (LatestIf _ _) e (latest-if a log index time)
