@@ -19,8 +19,7 @@ use ghost.Atoms.{Atoms, sem}
 use contract.Lifetimes.{Lfts}
 use contract.Monad.{Fun, fact}
 use types.Kit.{Given, Item, ‵, raw, _⊛_, given, ⋆, _$_, _∵_, !, qed, by, move, drop, use1, use2, split, learn, fsplit, fjoin, suffices, frame, done}
-use types.Part.{whole, sub, look-in}
-use types.Run.{look, init, stop, fld, from, load, of-opd, and-then, no-more, land, returns, enter, alloc1, alloc0, params1, pass1, pass0, free0}
+use types.Run.{look, init, stop, from, of-opd, and-then, no-more, land, returns, enter, alloc1, alloc0, params1, pass1, pass0, free0}
 use sound.WpLaws.{FmC, fmOf, WpFn-mono}
 use denote.RattleType.{RattleType, owns}
 use denote.Laws.{Is, shows}
@@ -44,7 +43,7 @@ use denote.Triple.Walked.{says, Stays, stay-none, walkOf, goes-none, Walks, ends
 use denote.Exit.{yes}
 use Rattle.window.specs.declared.Window.{Window}
 use Rattle.window.specs.declared.Word.{Word}
-use Rattle.window.proofs.Steps.{of-local, to-local, leaves, number, asks, answered}
+use Rattle.window.proofs.Steps.{of-local, of-field, to-local, leaves, number, asks, answered}
 use Rattle.window.proofs.Window as T
 use Rattle.window.proofs.Window.Laws as T′
 use Rattle.window.proofs.Word as S
@@ -159,8 +158,8 @@ module _
         qed W (raw Entry ∷ []) ∵ enter ! C Λ (function callee) (mach ∷ vint w32 n ∷ []) _ $
         alloc1 ! (λ l₀. alloc1 ! (λ l₁. alloc1 ! (λ l₂. alloc1 ! (λ l₃. alloc1 ! (λ l₄. alloc0 ! $ params1 ! $
         pass1 ! (init ! 6 refl wt) $ pass1 ! (init ! 4 refl (tt, record { fits = n-fits })) $ pass0 ! $
-        to-local ! (of-opd ! (load ! (from ! (fld ! refl (stop !))) (look-in ! 6 (sub ! 1 refl (whole !))))) (init ! 2 refl (tt, wt .1 .1 .0)) $
-        to-local ! (of-opd ! (load ! (from ! (fld ! refl (stop !))) (look-in ! 6 (sub ! 0 refl (whole !))))) (init ! 0 refl (tt, wt .1 .0)) $
+        to-local ! (of-opd ! (of-field ! 6 1 refl refl refl)) (init ! 2 refl (tt, wt .1 .1 .0)) $
+        to-local ! (of-opd ! (of-field ! 6 0 refl refl refl)) (init ! 0 refl (tt, wt .1 .0)) $
         move ! (10 ∷ []) $ use1 W (raw (Inner rule 𝓤 H A .pre to) ⊛ ‵ Own) (apart (wt .1 .0 .fits)) $ split ! $
         calls-at ! fm (Inner rule 𝓤 H A) known to
         (and-then ! (of-local ! 4 refl) (and-then ! (of-local ! 2 refl) (and-then ! (of-local ! 6 refl) (no-more !)))) (λ u.
