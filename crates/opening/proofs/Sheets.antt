@@ -13,7 +13,8 @@ use Rattle.words.specs.Run.{pick}
 use Rattle.words.proofs.Parts.{below, length-part, part-lent, part-back}
 use Rattle.chunks.specs.Chunk.{ChunkLength, bufferSize}
 use Rattle.area.specs.Record.{recordSize}
-use Rattle.opening.specs.Sheet.{shaped, sheetOf, lengthsRight, measured, numbered, openedOf, openedWithLog, onOpened, logRight, sizesLawful, basesLawful, lawful, Sizes, Bases, Lawful, heapLength, recordsLength}
+use Rattle.opening.specs.Sheet.{shaped, sheetOf, lengthsRight, measured, numbered, openedOf, openedWithLog, onOpened, logRight}
+use Rattle.opening.specs.Sheet.{sizesLawful, basesLawful, lawful, Sizes, Bases, Lawful, heapLength, recordsLength}
 use Rattle.opening.specs.declared.sheet.Sheet.{Sheet}
 use Rattle.opening.specs.declared.sheet.Opened.{Opened}
 use Rattle.opening.specs.declared.sheet.Opened.the-variants.{Image, Refused}
@@ -109,7 +110,7 @@ module _ (g : Sheet) (law : Lawful g) (i : ℕ) (h : i < g .count) where
 
 -- the length of a chunk
 pub chunk-length : (g : Sheet) → Lawful g → ChunkLength (g .chunk)
-chunk-length g law = let e = law .sizes .chunks in let l = law .sizes .least in let m = law .sizes .most in let s = law .sizes .eights in record { least = omega arith; most = omega arith; eights = omega arith }
+chunk-length g law = let s = law .sizes in record { least = omega arith; most = omega arith; eights = omega arith }
 
 -- ---- the chunk of buffer i, as it is lent and given back
 
@@ -141,8 +142,8 @@ opened-law : (s : List ℕ) (h r : ℕ) (g : Sheet) → openedOf s h r ≡ Image
 unfolding openedOf numbered measured
 opened-law s h r g e = go (shaped s) (lawful (sheetOf s)) (lengthsRight (sheetOf s) h r) refl e
   where
-    go : (a b c : Bool) → lawful (sheetOf s) ≡ b → pick a (pick b (pick c (Image (sheetOf s)) (Refused BadLength)) (Refused BadNumber)) (Refused BadSheet) ≡ Image g
-        → Lawful g
+    go : (a b c : Bool) → lawful (sheetOf s) ≡ b
+        → pick a (pick b (pick c (Image (sheetOf s)) (Refused BadLength)) (Refused BadNumber)) (Refused BadSheet) ≡ Image g → Lawful g
     go true true true l f = let z : sheetOf s ≡ g = cc in subst Lawful z (lawful-known (sheetOf s) l)
     go true true false l f = absurd (let z : _≡_ {A = ℕ} 0 1 = cc in omega arith)
     go true false c l f = absurd (let z : _≡_ {A = ℕ} 0 1 = cc in omega arith)

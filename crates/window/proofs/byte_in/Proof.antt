@@ -17,4 +17,5 @@ returns-3 : tie.Need-returns-3
 returns-3 c = ap At (c .read-u8 .ensures) ∙ sym (number-inside _ _ _ _ (c .before .before .if1 .left) (omega arith))
 
 pub byte-in-spec : {M : Type 1} → statement M
-byte-in-spec = tie.close (tie.spec returns (λ c. search needs) (λ c. search needs) returns-2 (λ c κs. search needs) (λ c. search needs) returns-3)
+byte-in-spec =
+    tie.close (tie.spec returns (λ c. search needs) (λ c. search needs) returns-2 (λ c κs. search needs) (λ c. search needs) returns-3)

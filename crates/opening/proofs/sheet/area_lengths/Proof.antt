@@ -6,17 +6,18 @@ use Rattle.opening.specs.Sheet.{lengthsOf}
 use Rattle.opening.proofs.sheet.area_lengths.Statement.{statement}
 use Rattle.opening.proofs.sheet.area_lengths.Tie as tie
 
-read-requires : tie.Need-read-requires
-read-requires c κs = shaped-long _ (sym (c .before .is-shaped .ensures) ∙ c .if1 .taken)
-
 returns : tie.Need-returns
 unfolding lengthsOf
-returns c = (rw (← c .before .before .before .is-shaped .ensures, c .before .before .if1 .taken, ← c .before .read .ensures) (c .measure-areas .ensures .0), c .measure-areas .ensures .1)
-
-returns-2 : tie.Need-returns-2
-unfolding lengthsOf
-returns-2 c = (rw (← c .before .is-shaped .ensures, c .if1 .left), tt)
+returns c =
+    let t = c .before .before in
+    (rw (← t .before .is-shaped .ensures, t .if1 .taken, ← c .before .read .ensures) (c .measure-areas .ensures .0), c .measure-areas .ensures .1)
 
 pub area-lengths-spec : {M : Type 1} → statement M
+unfolding lengthsOf
 area-lengths-spec =
-    tie.close (tie.spec (λ c κs. search needs) read-requires (λ c κs. search needs) returns returns-2)
+    tie.close
+    (tie.spec
+    (λ c κs. search needs)
+    (λ c κs. shaped-long _ (sym (c .before .is-shaped .ensures) ∙ c .if1 .taken))
+    (λ c κs. search needs) returns
+    (λ c. (rw (← c .before .is-shaped .ensures, c .if1 .left), tt)))

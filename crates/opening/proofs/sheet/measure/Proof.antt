@@ -5,17 +5,19 @@ use Rattle.opening.specs.Sheet.{measured}
 use Rattle.opening.proofs.sheet.measure.Statement.{statement}
 use Rattle.opening.proofs.sheet.measure.Tie as tie
 
-returns : tie.Need-returns
-unfolding measured
-returns c = (rw (ne-eqb _ _ (c .if1 .taken)), tt)
-
-returns-2 : tie.Need-returns-2
-unfolding measured
-returns-2 c = (rw (eq-eqb _ _ (c .before .before .if1 .left), ne-eqb _ _ (c .if2 .taken)), tt)
-
 returns-3 : tie.Need-returns-3
 unfolding measured
-returns-3 c = (rw (eq-eqb _ _ (c .before .before .if1 .left), eq-eqb _ _ (c .if2 .left)), record { law = c .before .before .before .before .pre; heapLong = c .before .before .if1 .left; recordsLong = c .if2 .left })
+returns-3 c =
+    let i = c .before .before in (
+      rw (eq-eqb _ _ (i .if1 .left), eq-eqb _ _ (c .if2 .left)),
+      record { law = i .before .before .pre; heapLong = i .if1 .left; recordsLong = c .if2 .left },
+    )
 
 pub measure-spec : {M : Type 1} → statement M
-measure-spec = tie.close (tie.spec (λ c. search needs) returns (λ c. search needs) returns-2 returns-3)
+unfolding measured
+measure-spec =
+    tie.close
+    (tie.spec
+    (λ c. search needs) (λ c. (rw (ne-eqb _ _ (c .if1 .taken)), tt)) (λ c. search needs)
+    (λ c. (rw (eq-eqb _ _ (c .before .before .if1 .left), ne-eqb _ _ (c .if2 .taken)), tt))
+    returns-3)

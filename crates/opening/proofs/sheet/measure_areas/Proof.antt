@@ -19,9 +19,7 @@ returns c =
     let l = lawful-known _ (sym (c .before .before .before .is-lawful .ensures) ∙ c .before .before .if1 .taken) in
     (rw (← c .before .before .before .is-lawful .ensures, c .before .before .if1 .taken), (l .sizes .area, omega arith))
 
-returns-2 : tie.Need-returns-2
-unfolding areasOf
-returns-2 c = (rw (← c .before .is-lawful .ensures, c .if1 .left), tt)
-
 pub measure-areas-spec : {M : Type 1} → statement M
-measure-areas-spec = tie.close (tie.spec (λ c κs. search needs) mul-t3 mul-t4 returns returns-2)
+unfolding areasOf
+measure-areas-spec =
+    tie.close (tie.spec (λ c κs. search needs) mul-t3 mul-t4 returns (λ c. (rw (← c .before .is-lawful .ensures, c .if1 .left), tt)))

@@ -8,28 +8,30 @@ use Rattle.opening.proofs.sheet.open_with_log.Tie as tie
 
 returns : tie.Need-returns
 unfolding openedWithLog
-returns c = (rw (← c .before .before .before .before .«open» .ensures .0, c .before .before .opened2 .given .1, ne-eqb _ _ (c .if1 .taken)), tt)
+returns c =
+    let o = c .before .before in
+    (rw (← o .before .before .«open» .ensures .0, o .opened2 .given .1, ne-eqb _ _ (c .if1 .taken)), tt)
 
 returns-2 : tie.Need-returns-2
 unfolding openedWithLog
-returns-2 c = (rw (← c .before .before .before .before .before .«open» .ensures .0, c .before .before .before .opened2 .given .1, eq-eqb _ _ (c .before .if1 .left), lt-leb _ _ (c .if2 .taken)), tt)
-
-returns-3 : tie.Need-returns-3
-unfolding openedWithLog
-returns-3 c = (rw (← c .before .before .before .«open» .ensures .0, c .before .opened .given .1), tt)
+returns-2 c =
+    let o = c .before .before .before in
+    (rw (← o .before .before .«open» .ensures .0, o .opened2 .given .1, eq-eqb _ _ (c .before .if1 .left), lt-leb _ _ (c .if2 .taken)), tt)
 
 returns-4 : tie.Need-returns-4
 unfolding openedWithLog
-returns-4 c = (rw (← c .before .before .before .before .before .«open» .ensures .0, c .before .before .before .opened2 .given .1, eq-eqb _ _ (c .before .if1 .left), le-leb _ _ (c .if2 .left)), (subst (OpenedIf _ _) (c .before .before .before .opened2 .given .1) (c .before .before .before .before .before .«open» .ensures .1), c .if2 .left))
+returns-4 c =
+    let o = c .before .before .before in
+    let e = o .before .before .«open» .ensures in (
+      rw (← e .0, o .opened2 .given .1, eq-eqb _ _ (c .before .if1 .left), le-leb _ _ (c .if2 .left)),
+      (subst (OpenedIf _ _) (o .opened2 .given .1) (e .1), c .if2 .left),
+    )
 
 pub open-with-log-spec : {M : Type 1} → statement M
+unfolding openedWithLog
 open-with-log-spec =
     tie.close
     (tie.spec
-    (λ c κs. search needs)
-    (λ c. search needs)
-    (λ c. search needs)
-    returns
-    returns-2
-    returns-3
+    (λ c κs. search needs) (λ c. search needs) (λ c. search needs) returns returns-2
+    (λ c. (rw (← c .before .before .before .«open» .ensures .0, c .before .opened .given .1), tt))
     returns-4)

@@ -14,5 +14,4 @@ returns c =
     ∙ four-first _ _ _ _ _ (omega arith) (l .before .before .low .ensures) (l .before .low2 .ensures) (l .low3 .ensures)
 
 pub with-first-spec : {M : Type 1} → statement M
-with-first-spec =
-    tie.close (tie.spec (λ c κs. search needs) (λ c κs. search needs) (λ c κs. search needs) (λ c κs. search needs) returns)
+with-first-spec = tie.close (tie.spec (λ c κs. search needs) (λ c κs. search needs) (λ c κs. search needs) (λ c κs. search needs) returns)
