@@ -28,8 +28,7 @@ use contract.Monad.{Fun}
 use contract.Running.{givenOf, tables, tablesOf}
 use types.Kit.{Given, Item, ‵, raw, _⊛_, ⋆, anyQ, atRet, _$_, _∵_, !, qed, by, move, keep, drop, use1, use2, split, join, group, rewrite, fsplit}
 use types.Kit.{fjoin, suffices, frame, done}
-use types.Part.{whole, sub, look-in}
-use types.Run.{look, store, store-raw, init, forget, stop, hop, fld, from, load, lit, of-opd, bin, addr, and-then, no-more, assigns, assigns-last, land}
+use types.Run.{look, store, store-raw, init, forget, stop, hop, from, lit, of-opd, bin, addr, and-then, no-more, assigns, assigns-last, land}
 use types.Run.{stays, leaves-loop, returns, enter, alloc1, alloc0, params1, pass1, pass0, free1, free0, exec}
 use types.Tokens.{lft-new, lft-end, lent-back}
 use sound.Loop.{loop-rule}
@@ -42,7 +41,7 @@ use denote.Plain.{uint-makes, uint-lawful, uint-vals, uint-tells}
 use denote.Builtin.{u8, u16, usize}
 use denote.Array.{Array, array-vals, array-typed, array-makes}
 use denote.Ref.{RefT, ShrRef, shr-copy}
-use denote.Slice.{sliceTy, sliceVal, MutSlice, ShrSlice, Room, heres, codedHoleys, at-slice, slice-vals, mut-slice-tells, shr-slice-tells, shr-slice-copy}
+use denote.Slice.{sliceTy, sliceVal, MutSlice, ShrSlice, Room, heres, codedHoleys, at-slice, slice-vals, mut-slice-tells, shr-slice-copy}
 use denote.Lend.{Held}
 use denote.Index.{row, place-is, elem-out, elem-put, opens-slice, closes-slice}
 use denote.Signature.{plain}
@@ -54,15 +53,14 @@ use denote.Triple.Call.{calls-at}
 use denote.Triple.Entry.{onEntry}
 use denote.Triple.Spec.{Meets, tripleOf}
 use denote.Triple.Table.{entered, cited}
-use denote.Triple.Walked.{Stays, stay-slice, stay-none-slice, walkOf, goes-slice, goes-none-slice, Walks, ends-at, walked, walk-meets}
-use denote.Exit.{yes}
+use denote.Triple.Walked.{Stays, stay-slice, walkOf, goes-slice, Walks, ends-at, walked, walk-meets}
 use borrow.Author.Tests.{lt-ltb, le-ltb}
 use Rattle.image.specs.Inspect.{Inspection, filled, foundBy, Begins}
 use Rattle.image.specs.declared.inspect.Finding.{Finding}
 use Rattle.image.specs.declared.inspect.Begun.{Begun}
 use Rattle.image.proofs.Findings.{filled-length}
-use Rattle.area.proofs.Steps.{of-local, to-local, leaves, number, asks, answered}
-use Rattle.image.proofs.Lent.{says-both, laid, lent, freed}
+use Rattle.area.proofs.Steps.{of-local, of-field, to-local, leaves, number, asks, answered}
+use Rattle.image.proofs.Lent.{says-both, laid, lent, freed, stays-bytes, goes-bytes, tells-bytes}
 use Rattle.image.proofs.inspect.Finding as T
 use Rattle.image.proofs.inspect.Finding.Laws as T′
 use Rattle.image.proofs.inspect.Begun as B
@@ -86,16 +84,7 @@ use Rattle.image.proofs.inspect.inspect.Code as code
 use Rattle.image.proofs.inspect.inspect.Code.Mir as body
 
 abbrev stayed : Stays (outer.ended .signature .params) (outer.ended .kept)
-stayed = (
-  stay-none-slice (0 ∷ []) tt (plain (λ _. u8)) yes,
-  (
-    stay-none-slice (1 ∷ []) tt (plain (λ _. u8)) yes,
-    (
-      stay-none-slice (2 ∷ []) tt (plain (λ _. u8)) yes,
-      (stay-slice (3 ∷ []) tt (plain (λ _. T.the-row)), tt),
-    ),
-  ),
-)
+stayed = (stays-bytes 0 tt, (stays-bytes 1 tt, (stays-bytes 2 tt, (stay-slice (3 ∷ []) tt (plain (λ _. T.the-row)), tt))))
 
 -- ---- the function, with its locals' types written out: the walk is at these, so that what the lemmas below say is met as it is written
 abbrev word : Ty
@@ -412,8 +401,8 @@ module _
           -- [the tokens; what the lent parts own; and the rest]
           land ! (from ! (stop !)) (init ! 8 refl (LL.lawful T.the-type T′.the-laws 𝓤 H A W .typed (found i) _ is .0)) $
           to-local ! (bin ! (of-local ! 6 refl) (lit ! tt) (record { fits = place-fits })) (init ! 11 refl (tt, record { fits = place-fits })) $
-          to-local ! (bin ! (load ! (from ! (fld ! refl (stop !))) (look-in ! 13 (sub ! 0 refl (whole !)))) (of-local ! 11 refl) tt)
-          (init ! 12 refl (tt, tt)) $ rewrite ! 12 (λ (p : ℕ). ‵ (fat fullShare tyPtr l₁₇ 0 (vptr b p))) (sym (place-is 16 o i)) refl $
+          to-local ! (bin ! (of-field ! 13 0 refl refl refl) (of-local ! 11 refl) tt) (init ! 12 refl (tt, tt)) $
+          rewrite ! 12 (λ (p : ℕ). ‵ (fat fullShare tyPtr l₁₇ 0 (vptr b p))) (sym (place-is 16 o i)) refl $
           move ! (5 ∷ []) $ elem-out ! T.the-row (Is T.the-row) (shows 𝓤 H A T.the-row) (LL.vals T.the-type T′.the-laws)
           (LL.tells T.the-type T′.the-laws) fullShare (filled found ys i) i (found i) b o here (λ _.
           -- [rows[i]; what it owns; the others; and the rest]
@@ -449,7 +438,7 @@ module _
           to-local ! (bin ! (of-local ! 6 refl) (of-local ! 16 refl) tt) (init ! 7 refl (tt, tt)) $
           rewrite ! 7 (λ (t : Bool). ‵ (fat fullShare tyBool l₁₂ 0 (vbool t))) (le-ltb n n (omega arith)) refl $
           leaves-loop ! (of-local ! 7 refl) $ exec ! (𝓣 .C) (𝓣 .Λ) En body.t-9 (atRet En Post) $
-          to-local ! (of-opd ! (load ! (from ! (fld ! refl (stop !))) (look-in ! 15 (sub ! 4 refl (whole !)))))
+          to-local ! (of-opd ! (of-field ! 15 4 refl refl refl))
           (init ! 17 refl (EL.lawful I.the-type I′.the-laws 𝓤 H A W tt .typed (r .start .answer) _ is-answer .0)) $
           -- the arrays come back, and the borrow of the rows is closed at what is filled
           move ! (3 ∷ []) $ lft-end ! tt $ use1 W (‵ (fdead (ν ∷ [])) ⊛ ‵ (fdead (ν ∷ []))) (W .lfts .dead-dup (ν ∷ [])) $ split ! $
@@ -501,7 +490,7 @@ module _
       pass1 ! (init ! 32 refl (tt, (tt, (record { fits = sheet-room .0 }, tt)))) $ pass1 ! (init ! 30 refl (tt, (tt, (record { fits = heap-room .0 }, tt)))) $
       pass1 ! (init ! 28 refl (tt, (tt, (record { fits = records-room .0 }, tt)))) $ pass1 ! (init ! 26 refl (tt, (tt, (record { fits = room .0 }, tt)))) $
       pass0 ! $
-      to-local ! (of-opd ! (load ! (from ! (fld ! refl (stop !))) (look-in ! 26 (sub ! 1 refl (whole !))))) (init ! 12 refl (tt, record { fits = room .0 })) $
+      to-local ! (of-opd ! (of-field ! 26 1 refl refl refl)) (init ! 12 refl (tt, record { fits = room .0 })) $
       move ! (37 ∷ []) $ fsplit ! $ move ! (1 ∷ []) $ fsplit ! $ move ! (1 ∷ []) $ fsplit ! $ move ! (1 ∷ []) $ fsplit ! $
       move ! (41 ∷ []) $ split ! $ move ! (1 ∷ []) $ split ! $ move ! (1 ∷ []) $ split ! $ move ! (1 ∷ []) $ split ! $
       move ! (9 ∷ 8 ∷ 7 ∷ 4 ∷ 3 ∷ 2 ∷ []) $ group ! 6 $
@@ -513,14 +502,13 @@ module _
       refl (λ _ _. refl) (λ r told. peeks ! B.the-row (Is B.the-row) (shows 𝓤 H A B.the-row) r (u ∷ []) (λ is. drop ! $
       land ! (from ! (stop !)) (init ! 32 refl (LL.lawful B.the-type B′.the-laws 𝓤 H A W .typed r _ is .0)) $
       rewrite ! 32 (λ (v : Val). ‵ (fat fullShare B′.mir l₅ 0 v)) (ap only (LL.tells B.the-type B′.the-laws r _ is)) refl $
-      to-local ! (of-opd ! (load ! (from ! (fld ! refl (stop !))) (look-in ! 32 (sub ! 0 refl (whole !)))))
+      to-local ! (of-opd ! (of-field ! 32 0 refl refl refl))
       (init ! 30 refl (LL.lawful S.the-type S′.the-laws 𝓤 H A W .typed (r .start) _ (start-is r u is) .0)) $
-      to-local ! (of-opd ! (load ! (from ! (fld ! refl (stop !))) (look-in ! 32 (sub ! 1 refl (whole !)))))
+      to-local ! (of-opd ! (of-field ! 32 1 refl refl refl))
       (init ! 28 refl (array-typed u16 (uint-lawful 𝓤 H A W w16 .typed) 512 (r .pairs) _ (pairs-is r u is) .0)) $
-      to-local ! (of-opd ! (load ! (from ! (fld ! refl (stop !))) (look-in ! 32 (sub ! 2 refl (whole !)))))
+      to-local ! (of-opd ! (of-field ! 32 2 refl refl refl))
       (init ! 26 refl (array-typed u8 (uint-lawful 𝓤 H A W w8 .typed) 512 (r .marks) _ (marks-is r u is) .0)) $
-      to-local ! (of-opd ! (load ! (from ! (fld ! refl (stop !))) (look-in ! 30 (sub ! 1 refl (whole !)))))
-      (init ! 24 refl (tt, record { fits = count-is r u is })) $
+      to-local ! (of-opd ! (of-field ! 30 1 refl refl refl)) (init ! 24 refl (tt, record { fits = count-is r u is })) $
       to-local ! (of-opd ! (lit ! tt)) (init ! 22 refl (tt, record { fits = lit< tt })) $
       -- the arrays are lent for a lifetime ν of the loop
       move ! (28 ∷ []) $ laid ! u16 (uint-makes 𝓤 H A W w16) (r .pairs) (pairs-is r u is) $
@@ -542,16 +530,7 @@ module _
   inspect-walks =
       walked 𝓤 H A outer.ended stayed (outer.clauses 𝓤 H A mem run) (WpFn 𝓤 H (𝓣 .C) (𝓣 .Λ) function)
       (λ κs. (slice-vals, (slice-vals, (slice-vals, (slice-vals, tt)))))
-      (λ κs. (
-        shr-slice-tells (named 0) (κs .0) u8,
-        (
-          shr-slice-tells (named 1) (κs .1 .0) u8,
-          (
-            shr-slice-tells (named 2) (κs .1 .1 .0) u8,
-            (mut-slice-tells (named 3) (κs .1 .1 .1 .0) T.the-row, tt),
-          ),
-        ),
-      ))
+      (λ κs. (tells-bytes 0 (κs .0), (tells-bytes 1 (κs .1 .0), (tells-bytes 2 (κs .1 .1 .0), (mut-slice-tells (named 3) (κs .1 .1 .1 .0) T.the-row, tt)))))
       (λ κs qs bounds a g are. via 𝓤 _ (fst∗ 𝓤 _ (emp 𝓤)) (let y = a .1 .1 .1 .0 in
       walk 𝓤 H A W mem run (κs .0) (κs .1 .0) (κs .1 .1 .0) (κs .1 .1 .1 .0) (qs .0) (qs .1 .0) (qs .1 .1 .0) (qs .1 .1 .1 .0)
       (a .0) (a .1 .0) (a .1 .1 .0) (y .ptr .0) (y .ptr .1) (y .name) (y .now)
@@ -560,16 +539,9 @@ module _
   inspect-meets : Meets 𝓤 H A outer.signature (WpFn 𝓤 H (𝓣 .C) (𝓣 .Λ) code.function) (outer.spec 𝓤 H A mem run)
   inspect-meets =
       subst (λ (f : Fn). Meets 𝓤 H A outer.signature (WpFn 𝓤 H (𝓣 .C) (𝓣 .Λ) f) (outer.spec 𝓤 H A mem run)) is-function
-      (walk-meets 𝓤 H A outer.ended stayed W (
-        goes-none-slice 𝓤 H A W 4 (0 ∷ []) tt (plain (λ _. u8)) yes,
-        (
-          goes-none-slice 𝓤 H A W 4 (1 ∷ []) tt (plain (λ _. u8)) yes,
-          (
-            goes-none-slice 𝓤 H A W 4 (2 ∷ []) tt (plain (λ _. u8)) yes,
-            (goes-slice 𝓤 H A W 4 3 tt (plain (λ _. T.the-row)), tt),
-          ),
-        ),
-      ) (outer.clauses 𝓤 H A mem run)
+      (walk-meets 𝓤 H A outer.ended stayed W
+      (goes-bytes 𝓤 H A W 4 0 tt, (goes-bytes 𝓤 H A W 4 1 tt, (goes-bytes 𝓤 H A W 4 2 tt, (goes-slice 𝓤 H A W 4 3 tt (plain (λ _. T.the-row)), tt))))
+      (outer.clauses 𝓤 H A mem run)
       (WpFn 𝓤 H (𝓣 .C) (𝓣 .Λ) function) (WpFn-mono 𝓤 H (W .laws) 𝓣 function) inspect-walks)
 
 pub inspect-spec : {M : Type 1} → stated.statement M
