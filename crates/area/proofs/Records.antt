@@ -11,7 +11,8 @@ use Rattle.area.specs.Record.{stamped, recordSize, recordWord, stampHigh
 use Rattle.area.specs.Place.{placeAddress}
 
 -- the word that stands `offset` bytes behind the address of record j is the record's word at that offset
-pub record-at : (l : List ℕ) (base address j offset : ℕ) → address ≡ placeAddress base recordSize j + offset → numberAt 4 l (address - base) ≡ recordWord l j offset
+pub record-at : (l : List ℕ) (base address j offset : ℕ)
+    → address ≡ placeAddress base recordSize j + offset → numberAt 4 l (address - base) ≡ recordWord l j offset
 unfolding recordWord
 record-at l base address j offset e =
     let o : address - base ≡ j * recordSize + offset = omega arith in
@@ -25,4 +26,6 @@ pub stamped-run : (l a b c : List ℕ) (j uptime thread : ℕ)
     → c ≡ stamped l j uptime thread
 unfolding stamped
 stamped-run l a b c j uptime thread ea eb ec =
-    rw (ec, sets-next l (bytesOf 4 0) (bytesOf 4 uptime) (j * recordSize + stampHighAt) 4 (j * recordSize + stampLowAt) ea (length-bytesOf 4 0) (omega arith) eb)
+    let both = sets-next l (bytesOf 4 0) (bytesOf 4 uptime) (j * recordSize + stampHighAt) 4 (j * recordSize + stampLowAt) ea (length-bytesOf 4 0)
+    (omega arith) eb in
+    rw (ec, both)

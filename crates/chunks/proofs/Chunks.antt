@@ -102,7 +102,8 @@ allocated-within c s e = go (eqb (r1Of c) redzone) (decodedOf (r1Of c) (bufferSi
     sized k false f = absurd (let z : _≡_ {A = ℕ} 0 1 = cc in omega arith)
 
     go : (b : Bool) (d : Decoded) → decodedOf (r1Of c) (bufferSize c) ≡ d
-        → pick b (zoneVerdict c (bytesOf 4 redzone) Whole) (ofCode d (λ k. pick (eqb (getD c k 0) guard) (zoneVerdict c (zoneAfter k (bufferSize c)) (Allocated k)) (Overrun k))) ≡ Allocated s
+        → pick b (zoneVerdict c (bytesOf 4 redzone) Whole) (ofCode d (λ k.
+        pick (eqb (getD c k 0) guard) (zoneVerdict c (zoneAfter k (bufferSize c)) (Allocated k)) (Overrun k))) ≡ Allocated s
         → (1 ≤ s) × (s ≤ bufferSize c)
     go true d q f = absurd (let w = zone-within c (bytesOf 4 redzone) Whole s f in let z : _≡_ {A = ℕ} 0 1 = cc in omega arith)
     go false (Size k) q f = let z : k ≡ s = sized k (eqb (getD c k 0) guard) f in decoded-within (r1Of c) (bufferSize c) s (q ∙ ap Size z)

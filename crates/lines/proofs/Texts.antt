@@ -10,7 +10,7 @@ use lib.Seq.{sets}
 use Rattle.io.specs.Digits.{glyph, digits, Fewest}
 use Rattle.words.proofs.Parts.{sets-next}
 use Rattle.verdicts.specs.declared.chain.Ending.{Ending}
-use Rattle.lines.specs.Text.{decimalWith, headerOf, linesOf, chainLineOf, faultsIn, faultsOf, textOf, Wrote, writtenOf, outputOf}
+use Rattle.lines.specs.Text.{decimalWith, headerOf, linesOf, chainLineOf, faultsIn, faultsOf, textOf, Wrote, writtenOf, outputOf, WrittenIf}
 use Rattle.lines.specs.declared.text.Written.the-variants.{Length, Short}
 
 -- ---- pieces
@@ -78,16 +78,18 @@ nothing-put : (m t o : List ℕ) (p : ℕ) → Wrote [] 0 t m p → m ++ o ≡ o
 nothing-put [] t o p w = refl
 nothing-put (x ∷ m) t o p w = let z : suc (length m) ≡ 0 = w .long in absurd (omega arith)
 
--- the two ends of a report, of which the first run only counted
+-- the two ends of a text, of which the first run only counted
 module _ (t o m : List ℕ) (need : ℕ) (w : Wrote [] 0 t m need) where
-  pub too-short : length (m ++ o) < need → (Short ≡ writtenOf t o) × (m ++ o ≡ outputOf t o)
+  pub too-short : length (m ++ o) < need → (Short ≡ writtenOf t o) × ((m ++ o ≡ outputOf t o) × WrittenIf (length o) Short)
   too-short h =
       let k = nothing-put m t o need w in
       let l : length o < length t = omega (arith, ap length k, w .ends) in
-      simp (lt-leb (length t) (length o) l) (refl, k)
+      simp (lt-leb (length t) (length o) l) (refl, (k, tt))
 
-  pub long-enough : need ≤ length (m ++ o) → (x : List ℕ) (r : ℕ) → Wrote (m ++ o) 0 t x r → (Length r ≡ writtenOf t o) × (x ≡ outputOf t o)
-  long-enough h x r v =
+  pub long-enough : need ≤ length (m ++ o) → {x : List ℕ} {r : ℕ} → Wrote (m ++ o) 0 t x r → r ≤ 65535
+      → (Length r ≡ writtenOf t o) × ((x ≡ outputOf t o) × WrittenIf (length o) (Length r))
+  long-enough h {x} {r} v few =
       let k = nothing-put m t o need w in
       let l : length t ≤ length o = omega (arith, ap length k, w .ends) in
-      simp (le-leb (length t) (length o) l) (ap Length (v .ends ∙ zero-add (length t)), v .filled (omega (arith, w .ends, v .ends)) ∙ ap (λ (y : List ℕ). sets y 0 t) k)
+      let e = v .filled (omega (arith, w .ends, v .ends)) ∙ ap (λ (y : List ℕ). sets y 0 t) k in
+      simp (le-leb (length t) (length o) l) (ap Length (v .ends ∙ zero-add (length t)), (e, (omega (arith, v .ends), few)))

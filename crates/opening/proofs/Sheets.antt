@@ -105,7 +105,7 @@ module _ (g : Sheet) (law : Lawful g) (i : ℕ) (h : i < g .count) where
 
 -- the length of a chunk
 pub chunk-length : (g : Sheet) → Lawful g → ChunkLength (g .chunk)
-chunk-length g law = let e = law .sizes .chunks in let l = law .sizes .least in let m = law .sizes .most in let s = law .sizes .eights in record { least = omega arith; most = omega arith; eights = omega arith }
+chunk-length g law = let s = law .sizes in record { least = omega arith; most = omega arith; eights = omega arith }
 
 -- ---- the chunk of buffer i, as it is lent and given back
 

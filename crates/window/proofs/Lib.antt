@@ -1,3 +1,4 @@
 pub mod Windows
+pub mod Steps
 mod Apart
 mod Through

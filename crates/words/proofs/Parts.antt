@@ -9,7 +9,8 @@ use native.Mathlib.Decide.{ℕ-discrete, decLe}
 use native.Mathlib.Numerals.{add-one}
 use native.Mathlib.Omega.{arith}
 use lib.ListN.{length, take, drop, getD, set, length-take, length-drop, length-append, length-set, take-append-drop, drop-of-length-le}
-use lib.Seq.{sets, sets-eq, length-sets, take-take, take-length, drop-length, drop-drop, drop-append-le, drop-append-add, take-append-le, take-append-seam, drop-at, length-take-le, drop-set-add, take-set-le, take-set-lt, drop-set-lt, drop-cons, getD-take, getD-drop, set-append-left}
+use lib.Seq.{sets, sets-eq, length-sets, take-take, take-length, drop-length, drop-drop, drop-append-le, drop-append-add, take-append-le, take-append-seam}
+use lib.Seq.{drop-at, length-take-le, drop-set-add, take-set-le, take-set-lt, drop-set-lt, drop-cons, getD-take, getD-drop, set-append-left}
 use Rattle.words.specs.Word.{part, flat}
 
 -- ---- a part of a list
@@ -134,7 +135,8 @@ pub part-copied : (l vs x : List ℕ) (at : ℕ) → at + length vs ≤ length l
     → take at l ++ (x ++ drop (at + length vs - at) (drop at l)) ≡ sets l at vs
 part-copied l vs x at h e =
     let n : at + length vs - at ≡ length vs = omega arith in
-    let none : drop (length vs) (take (length vs) (drop at l)) ≡ [] = drop-of-length-le (take (length vs) (drop at l)) {i = length vs} (omega (arith, length-take (length vs) (drop at l))) in
+    let none : drop (length vs) (take (length vs) (drop at l)) ≡ [] =
+    drop-of-length-le (take (length vs) (drop at l)) {i = length vs} (omega (arith, length-take (length vs) (drop at l))) in
     rw (e, n, take-length vs, none, append-nil vs) (part-back l vs at (length vs) refl h)
 
 -- what was written is read back

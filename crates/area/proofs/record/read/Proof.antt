@@ -10,4 +10,5 @@ returns : tie.Need-returns
 returns c = let a = c .before .before .args in c .read-at .ensures ∙ record-at (a .records .now) (a .base) _ (a .j) (a .offset) (omega arith)
 
 pub read-spec : {M : Type 1} → statement M
-read-spec = tie.close (tie.spec (λ c. search needs) (λ c. search needs) (λ c. search needs) (λ c. search needs) (λ c κs. search needs) returns)
+read-spec =
+    tie.close (tie.spec (λ c. search needs) (λ c. search needs) (λ c. search needs) (λ c. search needs) (λ c κs. search needs) returns)

@@ -4,9 +4,6 @@ use Rattle.window.proofs.Windows.{number-inside}
 use Rattle.area.proofs.record.read_at.Statement.{statement}
 use Rattle.area.proofs.record.read_at.Tie as tie
 
-enum-told : tie.Need-enum-told
-enum-told c = search needs
-
 returns : tie.Need-returns
 returns c =
     let s = c .before .before .before .before .before in
@@ -26,4 +23,4 @@ returns-2 c =
     cc
 
 pub read-at-spec : {M : Type 1} → statement M
-read-at-spec = tie.close (tie.spec (λ c κs. search needs) (λ c. search needs) enum-told returns returns-2)
+read-at-spec = tie.close (tie.spec (λ c κs. search needs) (λ c. search needs) (λ c. search needs) returns returns-2)

@@ -5,18 +5,15 @@ use Rattle.area.proofs.record.stamp.Statement.{statement}
 use Rattle.area.proofs.record.stamp.Tie as tie
 
 returns : tie.Need-returns
-returns c = stamped-run _ _ _ _ _ _ _ (c .before .before .before .before .before .before .before .before .before .before .write-u32 .ensures) (c .before .before .before .before .before .before .write-u322 .ensures) (c .before .before .write-u323 .ensures)
+returns c =
+    let w3 = c .before .before in
+    let w2 = w3 .before .before .before .before in
+    let w1 = w2 .before .before .before .before in
+    stamped-run _ _ _ _ _ _ _ (w1 .write-u32 .ensures) (w2 .write-u322 .ensures) (w3 .write-u323 .ensures)
 
 pub stamp-spec : {M : Type 1} → statement M
 stamp-spec =
     tie.close
     (tie.spec
-    (λ c. search needs)
-    (λ c. search needs)
-    (λ c κs. search needs)
-    (λ c. search needs)
-    (λ c κs. search needs)
-    (λ c. search needs)
-    (λ c κs. search needs)
-    (λ c. search needs)
-    returns)
+    (λ c. search needs) (λ c. search needs) (λ c κs. search needs) (λ c. search needs) (λ c κs. search needs) (λ c. search needs)
+    (λ c κs. search needs) (λ c. search needs) returns)

@@ -4,11 +4,7 @@ use Rattle.chunks.specs.Chunk.{tagAt}
 use Rattle.chunks.proofs.chunk.read_tag.Statement.{statement}
 use Rattle.chunks.proofs.chunk.read_tag.Tie as tie
 
-returns : tie.Need-returns
-unfolding tagAt
-returns c = cc
-
 pub read-tag-spec : {M : Type 1} → statement M
+unfolding tagAt
 read-tag-spec =
-    tie.close
-    (tie.spec (λ c. search needs) (λ c. search needs) (λ c κs. search needs) (λ c. search needs) (λ c κs. search needs) returns)
+    tie.close (tie.spec (λ c. search needs) (λ c. search needs) (λ c κs. search needs) (λ c. search needs) (λ c κs. search needs) (λ c. cc))

@@ -7,21 +7,17 @@ use Rattle.chunks.proofs.chunk.write.Tie as tie
 
 returns : tie.Need-returns
 returns c =
-    let e = c .before .before .before .before .before .before .before .before .before .before .before .before .before .before .before .before .before .before in
-    laid _ _ _ _ _ _ _ _ _ _ _ (omega arith) (e .fill .ensures) (c .before .before .before .before .before .before .before .before .before .before .before .before .before .before .write-u32 .ensures) (c .before .before .before .before .before .before .before .before .before .before .write-u322 .ensures) (c .before .before .before .before .before .before .write-u323 .ensures) (c .before .before .write-u324 .ensures)
+    let w4 = c .before .before in
+    let w3 = w4 .before .before .before .before in
+    let w2 = w3 .before .before .before .before in
+    let w1 = w2 .before .before .before .before in
+    let f = w1 .before .before .before .before in
+    laid _ _ _ _ _ _ _ _ _ _ _ (omega arith) (f .fill .ensures) (w1 .write-u32 .ensures) (w2 .write-u322 .ensures) (w3 .write-u323 .ensures)
+    (w4 .write-u324 .ensures)
 
 pub write-spec : {M : Type 1} → statement M
 write-spec =
     tie.close
     (tie.spec
-    (λ c. search needs)
-    (λ c κs. search needs)
-    (λ c κs. search needs)
-    (λ c. search needs)
-    (λ c κs. search needs)
-    (λ c. search needs)
-    (λ c κs. search needs)
-    (λ c. search needs)
-    (λ c κs. search needs)
-    (λ c. search needs)
-    returns)
+    (λ c. search needs) (λ c κs. search needs) (λ c κs. search needs) (λ c. search needs) (λ c κs. search needs) (λ c. search needs)
+    (λ c κs. search needs) (λ c. search needs) (λ c κs. search needs) (λ c. search needs) returns)

@@ -4,9 +4,6 @@ use Rattle.chunks.specs.Chunk.{freeChunk}
 use Rattle.chunks.proofs.chunk.write_free.Statement.{statement}
 use Rattle.chunks.proofs.chunk.write_free.Tie as tie
 
-returns : tie.Need-returns
-unfolding freeChunk
-returns c = cc
-
 pub write-free-spec : {M : Type 1} → statement M
-write-free-spec = tie.close (tie.spec (λ c κs. search needs) (λ c κs. search needs) (λ c. search needs) returns)
+unfolding freeChunk
+write-free-spec = tie.close (tie.spec (λ c κs. search needs) (λ c κs. search needs) (λ c. search needs) (λ c. cc))

@@ -7,9 +7,6 @@ use Rattle.chunks.proofs.Chunks.{lawful-within}
 use Rattle.chunks.proofs.chunk.write_granted.Statement.{statement}
 use Rattle.chunks.proofs.chunk.write_granted.Tie as tie
 
-enum-told : tie.Need-enum-told
-enum-told c = search needs
-
 -- the size of the grant is one of the buffer's
 lawful : (c : tie.After-grant) → c .grant .given .0 .0 ≤ bufferSize (c .before .before .before .before .args .chunk .now)
 lawful c = lawful-within _ _ _ (c .grant .given .1) (c .before .before .before .before .pre .1) .1
@@ -20,28 +17,13 @@ cast-encode c = let h = lawful (c .before .before) in omega arith
 slice-write-chunk : tie.Need-slice-write-chunk
 slice-write-chunk c = let h = lawful (c .before .before .before .before .before .before) in omega arith
 
-returns : tie.Need-returns
-unfolding grantedChunk
-returns c = rw (c .before .before .before .before .enum-told .given .1) (cc)
-
-returns-2 : tie.Need-returns-2
-unfolding grantedChunk
-returns-2 c = rw (c .before .before .before .before .before .before .grant .given .1) (cc)
-
 pub write-granted-spec : {M : Type 1} → statement M
+unfolding grantedChunk
 write-granted-spec =
     tie.close
     (tie.spec
-    (λ c κs. search needs)
-    enum-told
-    (λ c κs. search needs)
+    (λ c κs. search needs) (λ c. search needs) (λ c κs. search needs) (λ c. search needs) cast-encode (λ c κs. search needs)
+    (λ c κs. search needs) (λ c. search needs) slice-write-chunk (λ c. search needs)
+    (λ c. rw (c .before .before .before .before .enum-told .given .1) (cc))
     (λ c. search needs)
-    cast-encode
-    (λ c κs. search needs)
-    (λ c κs. search needs)
-    (λ c. search needs)
-    slice-write-chunk
-    (λ c. search needs)
-    returns
-    (λ c. search needs)
-    returns-2)
+    (λ c. rw (c .before .before .before .before .before .before .grant .given .1) (cc)))

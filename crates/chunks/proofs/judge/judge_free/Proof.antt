@@ -14,41 +14,25 @@ returns : tie.Need-returns
 unfolding freeVerdict
 returns c = rw (← c .before .before .before .first-difference .ensures, c .before .fill .given .1)
 
-enum-told : tie.Need-enum-told
-enum-told c = search needs
-
 -- the difference lies in the redzone
 zone-inside : (c : tie.After-known-told2) → c .before .zone .given .0 .0 < 8
 zone-inside c = run-within _ _ _ _ (omega arith) _ _ (c .before .before .before .first-difference2 .ensures) (c .before .zone .given .1)
 
-add-t10 : tie.Need-add-t10
-add-t10 c = omega (arith, zone-inside c)
-
-cast-t11 : tie.Need-cast-t11
-cast-t11 c = omega (arith, zone-inside c)
-
 returns-2 : tie.Need-returns-2
 unfolding freeVerdict
-returns-2 c = rw (← c .before .before .before .before .before .before .first-difference .ensures, c .before .before .before .before .enum-told .given .1, ← c .before .before .before .first-difference2 .ensures, c .before .zone .given .1)
+returns-2 c =
+    let d = c .before .before .before in
+    rw (← d .before .before .before .first-difference .ensures, d .before .enum-told .given .1, ← d .first-difference2 .ensures, c .before .zone .given .1)
 
 returns-3 : tie.Need-returns-3
 unfolding freeVerdict
-returns-3 c = rw (← c .before .before .before .before .before .first-difference .ensures, c .before .before .before .enum-told .given .1, ← c .before .before .first-difference2 .ensures, c .enum-told2 .given .1)
+returns-3 c =
+    let d = c .before .before in
+    rw (← d .before .before .before .first-difference .ensures, d .before .enum-told .given .1, ← d .first-difference2 .ensures, c .enum-told2 .given .1)
 
 pub judge-free-spec : {M : Type 1} → statement M
 judge-free-spec =
     tie.close
     (tie.spec
-    (λ c. search needs)
-    (λ c κs. search needs)
-    (λ c. search needs)
-    cast-t8
-    returns
-    enum-told
-    (λ c κs. search needs)
-    (λ c. search needs)
-    add-t10
-    cast-t11
-    (λ c. search needs)
-    returns-2
-    returns-3)
+    (λ c. search needs) (λ c κs. search needs) (λ c. search needs) cast-t8 returns (λ c. search needs) (λ c κs. search needs)
+    (λ c. search needs) (λ c. omega (arith, zone-inside c)) (λ c. omega (arith, zone-inside c)) (λ c. search needs) returns-2 returns-3)

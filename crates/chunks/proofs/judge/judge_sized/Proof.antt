@@ -5,27 +5,20 @@ use Rattle.chunks.specs.Judge.{sizedVerdict}
 use Rattle.chunks.proofs.judge.judge_sized.Statement.{statement}
 use Rattle.chunks.proofs.judge.judge_sized.Tie as tie
 
-returns : tie.Need-returns
-unfolding sizedVerdict
-returns c = rw (ne-eqb _ _ (c .if1 .taken))
-
 returns-2 : tie.Need-returns-2
 unfolding sizedVerdict
-returns-2 c = rw (eq-eqb _ _ (c .before .before .before .if1 .left), eq-eqb _ _ (c .before .before .if2 .taken), ← c .before .with-first .ensures) (c .judge-zone .ensures)
+returns-2 c =
+    let i = c .before .before in
+    rw (eq-eqb _ _ (i .before .if1 .left), eq-eqb _ _ (i .if2 .taken), ← c .before .with-first .ensures) (c .judge-zone .ensures)
 
 returns-3 : tie.Need-returns-3
 unfolding sizedVerdict
 returns-3 c = rw (eq-eqb _ _ (c .before .before .if1 .left), ne-eqb _ _ (c .before .if2 .left)) (c .judge-zone2 .ensures)
 
 pub judge-sized-spec : {M : Type 1} → statement M
+unfolding sizedVerdict
 judge-sized-spec =
     tie.close
     (tie.spec
-    (λ c. search needs)
-    returns
-    (λ c. search needs)
-    (λ c κs. search needs)
-    (λ c κs. search needs)
-    returns-2
-    (λ c κs. search needs)
-    returns-3)
+    (λ c. search needs) (λ c. rw (ne-eqb _ _ (c .if1 .taken))) (λ c. search needs) (λ c κs. search needs) (λ c κs. search needs) returns-2
+    (λ c κs. search needs) returns-3)

@@ -11,15 +11,6 @@ use Rattle.chunks.proofs.judge.judge_zone.Tie as tie
 inside : (c : tie.After-known-told) → c .before .d .given .0 .0 < 4
 inside c = run-within _ _ _ _ (omega arith) _ _ (c .before .before .before .first-difference .ensures) (c .before .d .given .1)
 
-add-t9 : tie.Need-add-t9
-add-t9 c = omega (arith, inside c)
-
-cast-t10 : tie.Need-cast-t10
-cast-t10 c = omega (arith, inside c)
-
-enum-told : tie.Need-enum-told
-enum-told c = search needs
-
 returns : tie.Need-returns
 returns c = zone-at _ _ _ _ _ (c .before .before .before .first-difference .ensures) (c .before .d .given .1)
 
@@ -30,11 +21,5 @@ pub judge-zone-spec : {M : Type 1} → statement M
 judge-zone-spec =
     tie.close
     (tie.spec
-    (λ c. search needs)
-    (λ c κs. search needs)
-    (λ c. search needs)
-    add-t9
-    cast-t10
-    enum-told
-    returns
-    returns-2)
+    (λ c. search needs) (λ c κs. search needs) (λ c. search needs) (λ c. omega (arith, inside c)) (λ c. omega (arith, inside c))
+    (λ c. search needs) returns returns-2)

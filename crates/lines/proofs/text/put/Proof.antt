@@ -5,8 +5,10 @@ use borrow.Author.Needs.{needs}
 use Rattle.lines.proofs.text.put.Statement.{statement}
 use Rattle.lines.proofs.text.put.Tie as tie
 
-returns : tie.Need-returns
-returns c = record { long = refl; filled = λ h. absurd (omega arith); ends = refl }
-
 pub put-spec : {M : Type 1} → statement M
-put-spec = tie.close (tie.spec (λ c. search needs) returns (λ c κs. search needs) (λ c. search needs) (λ c. search needs))
+put-spec =
+    tie.close
+    (tie.spec
+    (λ c. search needs)
+    (λ c. record { long = refl; filled = λ h. absurd (omega arith); ends = refl })
+    (λ c κs. search needs) (λ c. search needs) λ c. search needs)

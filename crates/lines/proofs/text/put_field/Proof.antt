@@ -10,9 +10,10 @@ use Rattle.lines.proofs.text.put_field.Tie as tie
 
 returns : tie.Need-returns
 returns c =
-    let d = c .before .before .before .before .before .before .put-decimal in
+    let p = c .before .before .before .before .before .before in
+    let s = p .before .before .before .before in
+    let d = p .put-decimal in
     let w = c .before .before .put in
-    let s = c .before .before .before .before .before .before .before .before .before .before in
     let e : w .result ≡ d .result + length (s .args .word .now) = w .ensures .ends in
     (then (d .ensures .0) (w .ensures), omega (arith, d .ensures .1, s .pre .1))
 

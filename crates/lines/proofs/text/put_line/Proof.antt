@@ -23,8 +23,9 @@ returns-2 c =
 returns-3 : tie.Need-returns-3
 unfolding lineOf
 returns-3 c =
-    let i = c .before .before .before .before .before .before .before .before .before .before in
-    let v = c .before .before .before .before .before .before .before .put-field3 .ensures in
+    let l = c .before .before .before .before .before .before .before in
+    let i = l .before .before .before in
+    let v = l .put-field3 .ensures in
     let w = c .before .before .put-field4 .ensures in
     simp (ne-eqb _ _ (i .before .before .if1 .left), ne-eqb _ _ (i .before .if2 .left), eq-eqb _ _ (i .if3 .taken))
     (then (v .0) (w .0), omega (arith, v .1, w .1))
@@ -40,20 +41,6 @@ pub put-line-spec : {M : Type 1} → statement M
 put-line-spec =
     tie.close
     (tie.spec
-    (λ c. search needs)
-    (λ c κs. search needs)
-    (λ c. search needs)
-    returns
-    (λ c. search needs)
-    (λ c κs. search needs)
-    (λ c. search needs)
-    returns-2
-    (λ c. search needs)
-    (λ c κs. search needs)
-    (λ c. search needs)
-    (λ c κs. search needs)
-    (λ c. search needs)
-    returns-3
-    (λ c κs. search needs)
-    (λ c. search needs)
-    returns-4)
+    (λ c. search needs) (λ c κs. search needs) (λ c. search needs) returns (λ c. search needs) (λ c κs. search needs) (λ c. search needs)
+    returns-2 (λ c. search needs) (λ c κs. search needs) (λ c. search needs) (λ c κs. search needs) (λ c. search needs) returns-3
+    (λ c κs. search needs) (λ c. search needs) returns-4)

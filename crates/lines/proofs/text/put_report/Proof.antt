@@ -23,9 +23,6 @@ Inv-loop output₀ rows n met ending at₀ faults₀ i₀ output at faults i =
 abbrev μ-loop : tie.MeasureT-loop
 μ-loop output₀ rows n met ending at₀ faults₀ i₀ output at faults i = n - i
 
-put-header-requires : tie.Need-put-header-requires Inv-loop μ-loop
-put-header-requires c κs = search needs
-
 loop-holds : tie.Need-loop-holds Inv-loop μ-loop
 loop-holds c =
     let h = c .before .before .put-header in
@@ -38,51 +35,13 @@ loop-holds c =
       subst (λ (x : List ℕ). Wrote (h .last .0) (h .result) x (h .last .0) (h .result)) none (wrote-none (h .last .0) (h .result)),
     )
 
-mul-number : tie.Need-mul-number Inv-loop μ-loop
-mul-number c = search needs
-
-add-number : tie.Need-add-number Inv-loop μ-loop
-add-number c = search needs
-
-mul-number-2 : tie.Need-mul-number-2 Inv-loop μ-loop
-mul-number-2 c = search needs
-
-shared-slice-read-number : tie.Need-shared-slice-read-number Inv-loop μ-loop
-shared-slice-read-number c = search needs
-
-mul-put-line : tie.Need-mul-put-line Inv-loop μ-loop
-mul-put-line c = search needs
-
-add-put-line : tie.Need-add-put-line Inv-loop μ-loop
-add-put-line c = search needs
-
-mul-put-line-2 : tie.Need-mul-put-line-2 Inv-loop μ-loop
-mul-put-line-2 c = search needs
-
-shared-slice-read-put-line : tie.Need-shared-slice-read-put-line Inv-loop μ-loop
-shared-slice-read-put-line c = search needs
-
-put-line-requires : tie.Need-put-line-requires Inv-loop μ-loop
-put-line-requires c κs = search needs
-
-fault-requires : tie.Need-fault-requires Inv-loop μ-loop
-fault-requires c κs = search needs
-
-add-faults : tie.Need-add-faults Inv-loop μ-loop
-add-faults c = search needs
-
-add-i : tie.Need-add-i Inv-loop μ-loop
-add-i c = search needs
-
-loop-less : tie.Need-loop-less Inv-loop μ-loop
-loop-less c = search needs
-
 loop-again : tie.Need-loop-again Inv-loop μ-loop
 loop-again c =
     let f = c .fault .ensures in
     let w = c .before .before .before .put-line .ensures in
-    let l = c .before .before .before .before .before .before .before .before .loop in
-    let r = c .before .before .before .before .before .before .before .before .before .before .before .before .before .before .before .args .rows .now in
+    let p = c .before .before .before .before .before .before .before .before in
+    let l = p .loop in
+    let r = p .before .before .before .before .before .before .before .args .rows .now in
     let e = l .inv in (
       search needs,
       omega (arith, f .1, e .1),
@@ -91,62 +50,41 @@ loop-again c =
       rw (add-one, flat-suc) (then (e .4) (w .0)),
     )
 
-put-chain-requires : tie.Need-put-chain-requires Inv-loop μ-loop
-put-chain-requires c κs = search needs
+-- where the loop has ended, seen from the function's end, and where the function began
+abbrev ended : tie.After-slice-known5 Inv-loop μ-loop → tie.After-loop Inv-loop μ-loop
+ended c = c .before .before .before .before .before .before .before .before
 
-put-faults-requires : tie.Need-put-faults-requires Inv-loop μ-loop
-put-faults-requires c κs = search needs
+abbrev began : tie.After-loop Inv-loop μ-loop → tie.Start Inv-loop μ-loop
+began e = e .before .before .before .before .before .before .before .before
 
 -- the whole report, at the function's end
 whole : (c : tie.After-slice-known5 Inv-loop μ-loop) →
-    let a = c .before .before .before .before .before .before .before .before .before .before .before .before .before .before .before .before .args in
+    let a = began (ended c) .args in
     let w = c .before .before .put-faults in
     Wrote (a .output .now) 0 (textOf (rowNumber (a .rows .now)) (rowValue (a .rows .now)) (a .n) (a .met) (a .ending)) (w .last .0) (w .result)
 whole c =
-    let a = c .before .before .before .before .before .before .before .before .before .before .before .before .before .before .before .before .args in
+    let a = began (ended c) .args in
     let r = a .rows .now in
-    let h = c .before .before .before .before .before .before .before .before .before .before .before .before .put-header in
-    let l = c .before .before .before .before .before .before .before .before .before .loop in
+    let h = ended c .before .before .before .before .put-header in
+    let l = ended c .before .loop in
     let k = c .before .before .before .before .before .before .put-chain in
     let w = c .before .before .put-faults in
-    let e : l .i ≡ a .n = omega (arith, c .before .before .before .before .before .before .before .before .loop-test .left, l .inv .0) in
+    let e : l .i ≡ a .n = omega (arith, ended c .loop-test .left, l .inv .0) in
     subst (λ (x : List ℕ). Wrote (a .output .now) 0 x (w .last .0) (w .result))
     (text-is (rowNumber r) (rowValue r) (l .i) (a .n) (l .faults) (a .met) (a .ending) e (l .inv .3))
     (then (then (then (h .ensures .0) (l .inv .4)) (k .ensures .0)) (w .ensures .0))
 
-same-length : tie.Need-same-length Inv-loop μ-loop
-same-length c = whole c .long
-
 returns : tie.Need-returns Inv-loop μ-loop
 returns c =
-    let l = c .before .before .before .before .before .before .before .before .before .loop .inv in
+    let l = ended c .before .loop .inv in
     let k = c .before .before .before .before .before .before .put-chain .ensures .1 in
-    let w = c .before .before .put-faults .ensures .1 in
-    (whole c, omega (arith, l .0, l .2, k, w))
+    (whole c, omega (arith, l .0, l .2, k, c .before .before .put-faults .ensures .1))
 
 pub put-report-spec : {M : Type 1} → statement M
 put-report-spec =
     tie.close
     (tie.spec
-    Inv-loop
-    μ-loop
-    put-header-requires
-    loop-holds
-    mul-number
-    add-number
-    mul-number-2
-    shared-slice-read-number
-    mul-put-line
-    add-put-line
-    mul-put-line-2
-    shared-slice-read-put-line
-    put-line-requires
-    fault-requires
-    add-faults
-    add-i
-    loop-less
-    loop-again
-    put-chain-requires
-    put-faults-requires
-    same-length
-    returns)
+    Inv-loop μ-loop (λ c κs. search needs) loop-holds (λ c. search needs) (λ c. search needs) (λ c. search needs) (λ c. search needs)
+    (λ c. search needs) (λ c. search needs) (λ c. search needs) (λ c. search needs) (λ c κs. search needs) (λ c κs. search needs)
+    (λ c. search needs) (λ c. search needs) (λ c. search needs) loop-again (λ c κs. search needs) (λ c κs. search needs)
+    (λ c. whole c .long) returns)

@@ -5,14 +5,15 @@ use Rattle.opening.specs.Sheet.{fieldIs}
 use Rattle.opening.proofs.sheet.field_is.Statement.{statement}
 use Rattle.opening.proofs.sheet.field_is.Tie as tie
 
-returns : tie.Need-returns
-unfolding fieldIs
-returns c = rw (← c .before .read-u8 .ensures, ne-eqb _ _ (c .if1 .taken))
-
 returns-2 : tie.Need-returns-2
 unfolding fieldIs
 returns-2 c = rw (← c .before .before .read-u8 .ensures, ← c .read-u16 .ensures, eq-eqb _ _ (c .before .if1 .left))
 
 pub field-is-spec : {M : Type 1} → statement M
+unfolding fieldIs
 field-is-spec =
-    tie.close (tie.spec (λ c κs. search needs) returns (λ c. search needs) (λ c κs. search needs) returns-2)
+    tie.close
+    (tie.spec
+    (λ c κs. search needs)
+    (λ c. rw (← c .before .read-u8 .ensures, ne-eqb _ _ (c .if1 .taken)))
+    (λ c. search needs) (λ c κs. search needs) returns-2)

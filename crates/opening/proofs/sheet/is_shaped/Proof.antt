@@ -6,27 +6,19 @@ use Rattle.opening.specs.Sheet.{shaped}
 use Rattle.opening.proofs.sheet.is_shaped.Statement.{statement}
 use Rattle.opening.proofs.sheet.is_shaped.Tie as tie
 
-returns : tie.Need-returns
-unfolding shaped
-returns c = rw (ne-eqb _ _ (c .if1 .taken))
-
 returns-2 : tie.Need-returns-2
 unfolding shaped
-returns-2 c = rw (eq-eqb _ _ (c .before .before .before .before .before .before .before .before .if1 .left))
-    (eight (c .before .before .before .before .before .before .before .field-is .ensures) (c .before .before .before .before .before .before .field-is2 .ensures) (c .before .before .before .before .before .field-is3 .ensures)
-    (c .before .before .before .before .field-is4 .ensures) (c .before .before .before .field-is5 .ensures) (c .before .before .field-is6 .ensures) (c .before .field-is7 .ensures) (c .field-is8 .ensures))
+returns-2 c =
+    let d = c .before .before .before .before in
+    let a = d .before .before .before in
+    rw (eq-eqb _ _ (a .before .if1 .left))
+    (eight (a .field-is .ensures) (d .before .before .field-is2 .ensures) (d .before .field-is3 .ensures) (d .field-is4 .ensures)
+    (c .before .before .before .field-is5 .ensures) (c .before .before .field-is6 .ensures) (c .before .field-is7 .ensures) (c .field-is8 .ensures))
 
 pub is-shaped-spec : {M : Type 1} → statement M
+unfolding shaped
 is-shaped-spec =
     tie.close
     (tie.spec
-    returns
-    (λ c κs. search needs)
-    (λ c κs. search needs)
-    (λ c κs. search needs)
-    (λ c κs. search needs)
-    (λ c κs. search needs)
-    (λ c κs. search needs)
-    (λ c κs. search needs)
-    (λ c κs. search needs)
-    returns-2)
+    (λ c. rw (ne-eqb _ _ (c .if1 .taken))) (λ c κs. search needs) (λ c κs. search needs) (λ c κs. search needs) (λ c κs. search needs)
+    (λ c κs. search needs) (λ c κs. search needs) (λ c κs. search needs) (λ c κs. search needs) returns-2)

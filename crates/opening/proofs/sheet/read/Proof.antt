@@ -4,24 +4,11 @@ use Rattle.opening.specs.Sheet.{sheetOf}
 use Rattle.opening.proofs.sheet.read.Statement.{statement}
 use Rattle.opening.proofs.sheet.read.Tie as tie
 
-returns : tie.Need-returns
-unfolding sheetOf
-returns c = cc
-
 pub read-spec : {M : Type 1} → statement M
+unfolding sheetOf
 read-spec =
     tie.close
     (tie.spec
-    (λ c κs. search needs)
-    (λ c κs. search needs)
-    (λ c κs. search needs)
-    (λ c κs. search needs)
-    (λ c. search needs)
-    (λ c κs. search needs)
-    (λ c. search needs)
-    (λ c κs. search needs)
-    (λ c. search needs)
-    (λ c κs. search needs)
-    (λ c κs. search needs)
-    (λ c. search needs)
-    returns)
+    (λ c κs. search needs) (λ c κs. search needs) (λ c κs. search needs) (λ c κs. search needs) (λ c. search needs) (λ c κs. search needs)
+    (λ c. search needs) (λ c κs. search needs) (λ c. search needs) (λ c κs. search needs) (λ c κs. search needs) (λ c. search needs)
+    (λ c. cc))

@@ -1,4 +1,5 @@
--- Each test is one of the rule's, in its order. Assumes nothing.
+-- Each test is one of the rule's: one that fails makes the rule fail, and where the first seven hold the last decides. Assumes nothing.
+use mathlib.Core.Bool.{and-false}
 use native.Mathlib.Nat.{mul-le-mul}
 use native.Mathlib.Omega.{arith}
 use borrow.Author.Tests.{eq-eqb, ne-eqb, le-leb, lt-leb}
@@ -7,52 +8,38 @@ use Rattle.opening.specs.Sheet.{sizesLawful}
 use Rattle.opening.proofs.sheet.sizes_lawful.Statement.{statement}
 use Rattle.opening.proofs.sheet.sizes_lawful.Tie as tie
 
-returns : tie.Need-returns
-unfolding sizesLawful
-returns c = rw (ne-eqb _ _ (c .if1 .taken))
-
-returns-2 : tie.Need-returns-2
-unfolding sizesLawful
-returns-2 c = rw (eq-eqb _ _ (c .before .if1 .left), lt-leb _ _ (c .if2 .taken))
-
-returns-3 : tie.Need-returns-3
-unfolding sizesLawful
-returns-3 c = rw (eq-eqb _ _ (c .before .before .if1 .left), le-leb _ _ (c .before .if2 .left), lt-leb _ _ (c .if3 .taken))
-
-returns-4 : tie.Need-returns-4
-unfolding sizesLawful
-returns-4 c = rw (eq-eqb _ _ (c .before .before .before .if1 .left), le-leb _ _ (c .before .before .if2 .left), le-leb _ _ (c .before .if3 .left), ne-eqb _ _ (c .if4 .taken))
-
-returns-5 : tie.Need-returns-5
-unfolding sizesLawful
-returns-5 c = rw (eq-eqb _ _ (c .before .before .before .before .if1 .left), le-leb _ _ (c .before .before .before .if2 .left), le-leb _ _ (c .before .before .if3 .left), eq-eqb _ _ (c .before .if4 .left), lt-leb _ _ (c .if5 .taken))
-
-returns-6 : tie.Need-returns-6
-unfolding sizesLawful
-returns-6 c = rw (eq-eqb _ _ (c .before .before .before .before .before .if1 .left), le-leb _ _ (c .before .before .before .before .if2 .left), le-leb _ _ (c .before .before .before .if3 .left), eq-eqb _ _ (c .before .before .if4 .left), le-leb _ _ (c .before .if5 .left), lt-leb _ _ (c .if6 .taken))
-
 mul-if7 : tie.Need-mul-if7
-mul-if7 c = let a = c .before .before .before .before .before .before .args in omega (arith, mul-le-mul {n₁ = a .count} {m₁ = a .chunk} {n₂ = 512} {m₂ = 4112} (omega arith) (omega arith))
-
-returns-7 : tie.Need-returns-7
-unfolding sizesLawful
-returns-7 c = rw (eq-eqb _ _ (c .before .before .before .before .before .before .if1 .left), le-leb _ _ (c .before .before .before .before .before .if2 .left), le-leb _ _ (c .before .before .before .before .if3 .left), eq-eqb _ _ (c .before .before .before .if4 .left), le-leb _ _ (c .before .before .if5 .left), le-leb _ _ (c .before .if6 .left), lt-leb _ _ (c .if7 .taken))
+mul-if7 c =
+    let a = c .before .before .before .before .before .before .args in
+    omega (arith, mul-le-mul {n₁ = a .count} {m₁ = a .chunk} {n₂ = 512} {m₂ = 4112} (omega arith) (omega arith))
 
 returns-8 : tie.Need-returns-8
 unfolding sizesLawful
-returns-8 c = rw (eq-eqb _ _ (c .before .before .before .before .before .before .if1 .left), le-leb _ _ (c .before .before .before .before .before .if2 .left), le-leb _ _ (c .before .before .before .before .if3 .left), eq-eqb _ _ (c .before .before .before .if4 .left), le-leb _ _ (c .before .before .if5 .left), le-leb _ _ (c .before .if6 .left), le-leb _ _ (c .if7 .left))
+returns-8 c =
+    let e = c .before .before in
+    let b = e .before .before .before in
+    rw (
+      eq-eqb _ _ (b .before .if1 .left),
+      le-leb _ _ (b .if2 .left),
+      le-leb _ _ (e .before .before .if3 .left),
+      eq-eqb _ _ (e .before .if4 .left),
+      le-leb _ _ (e .if5 .left),
+      le-leb _ _ (c .before .if6 .left),
+      le-leb _ _ (c .if7 .left),
+    )
 
 pub sizes-lawful-spec : {M : Type 1} → statement M
+unfolding sizesLawful
 sizes-lawful-spec =
     tie.close
     (tie.spec
-    returns
-    returns-2
-    returns-3
+    (λ c. rw (ne-eqb _ _ (c .if1 .taken)))
+    (λ c. simp (lt-leb _ _ (c .if2 .taken), and-false))
+    (λ c. simp (lt-leb _ _ (c .if3 .taken), and-false))
     (λ c. search needs)
-    returns-4
-    returns-5
-    returns-6
+    (λ c. simp (ne-eqb _ _ (c .if4 .taken), and-false))
+    (λ c. simp (lt-leb _ _ (c .if5 .taken), and-false))
+    (λ c. simp (lt-leb _ _ (c .if6 .taken), and-false))
     mul-if7
-    returns-7
+    (λ c. simp (lt-leb _ _ (c .if7 .taken), and-false))
     returns-8)

@@ -168,9 +168,10 @@ walk-returns-4 t c =
     let m = a .marks .now in
     let from = chainAfter (now (a .records .now)) (a .base) (a .n) in
     λ seen h.
-    gives-meets _ (from (i ∷ seen) (c .before .before .read-at .result)) i seen (a .base) (a .n) (a .met) _ _
+    let read = c .before .before .read-at in
+    gives-meets _ (from (i ∷ seen) (read .result)) i seen (a .base) (a .n) (a .met) _ _
     (chain-meets _ _ _ seen (a .word) i (p .before .before .before .if1 .left) (is-at t p) (not-met 512 seen m i h (in-array t p) (f .if2 .left))
-    ∙ ap (λ (w : ℕ). meets i (from (i ∷ seen) w)) (sym (c .before .before .read-at .ensures ∙ record-at _ (a .base) _ i nextAt (ap (λ (w : ℕ). w + nextAt) (found t p .1)))))
+    ∙ ap (λ (w : ℕ). meets i (from (i ∷ seen) w)) (sym (read .ensures ∙ record-at _ (a .base) _ i nextAt (ap (λ (w : ℕ). w + nextAt) (found t p .1)))))
     (c .walk .ensures (i ∷ seen) (ap (λ (l : List ℕ). set l i 1) h ∙ marks-set 512 i seen (in-array t p)))
 
 pub +walk-spec : {M : Type 1} → statement M

@@ -29,15 +29,13 @@ came : (c : tie.After-walk) →
 came c =
     let s = c .before .before .before .before in
     let a = s .args in
-    gives-all (a .t1 .now) (a .base) (a .n) (a .head) (c .walk .result) (c .walk .last .1 .1 .1 .1 .0) (c .walk .ensures [] (s .pre .1 .1 .1 ∙ sym (marks-none 512)))
+    gives-all (a .t1 .now) (a .base) (a .n) (a .head) (c .walk .result) (c .walk .last .1 .1 .1 .1 .0)
+    (c .walk .ensures [] (s .pre .1 .1 .1 ∙ sym (marks-none 512)))
 
 returns : tie.Need-returns
 returns c =
     let g = came (c .before) in
     (g .0, (sym (ending-end _ _ _ (c .if1 .taken)) ∙ g .1 .0, g .1 .1))
-
-enum-told : tie.Need-enum-told
-enum-told c = search needs
 
 returns-2 : tie.Need-returns-2
 returns-2 c =
@@ -53,13 +51,4 @@ returns-3 c =
 
 pub walk-from-spec : {M : Type 1} → statement M
 walk-from-spec =
-    tie.close
-    (tie.spec
-    walk-requires
-    (λ c. search needs)
-    returns
-    (λ c κs. search needs)
-    enum-told
-    (λ c. search needs)
-    returns-2
-    returns-3)
+    tie.close (tie.spec walk-requires (λ c. search needs) returns (λ c κs. search needs) (λ c. search needs) (λ c. search needs) returns-2 returns-3)

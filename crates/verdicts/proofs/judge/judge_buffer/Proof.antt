@@ -13,9 +13,6 @@ use Rattle.opening.proofs.Sheets.{chunk-inside, chunk-small, record-small, reco
 use Rattle.verdicts.proofs.judge.judge_buffer.Statement.{statement}
 use Rattle.verdicts.proofs.judge.judge_buffer.Tie as tie
 
-enum-told : tie.Need-enum-told
-enum-told c = search needs
-
 -- what is known of buffer i and of its own record
 record Known (g : Sheet) (i j : ℕ) : Type 0 where
   own : j < g .count
@@ -63,10 +60,6 @@ part-judge-owned-end c = let k = known (c .before .before .before .before) in om
 element-copy-out-judge-owned : tie.Need-element-copy-out-judge-owned
 element-copy-out-judge-owned c = let k = known (c .before .before .before .before .before) in omega arith
 
-returns : tie.Need-returns
-unfolding judged
-returns c = rw (c .enum-told .given .1)
-
 returns-2 : tie.Need-returns-2
 unfolding judged
 returns-2 c =
@@ -74,21 +67,10 @@ returns-2 c =
     rw (o .own .given .1, ← c .before .again-at .ensures, ← part-lent) (c .judge-owned .ensures)
 
 pub judge-buffer-spec : {M : Type 1} → statement M
+unfolding judged
 judge-buffer-spec =
     tie.close
     (tie.spec
-    enum-told
-    (λ c. search needs)
-    mul-at
-    add-end
-    mul-record-at
-    cast-record-at
-    add-record-at
-    (λ c. search needs)
-    (λ c. search needs)
-    part-judge-owned-end
-    element-copy-out-judge-owned
-    (λ c κs. search needs)
-    (λ c κs. search needs)
-    returns
-    returns-2)
+    (λ c. search needs) (λ c. search needs) mul-at add-end mul-record-at cast-record-at add-record-at (λ c. search needs)
+    (λ c. search needs) part-judge-owned-end element-copy-out-judge-owned (λ c κs. search needs) (λ c κs. search needs)
+    (λ c. rw (c .enum-told .given .1)) returns-2)

@@ -4,11 +4,6 @@ use borrow.Author.Tests.{eq-eqb, ne-eqb}
 use Rattle.verdicts.proofs.pairing.note.Statement.{statement}
 use Rattle.verdicts.proofs.pairing.note.Tie as tie
 
-returns : tie.Need-returns
-returns c = rw (eq-eqb _ _ (c .if1 .taken))
-
-returns-2 : tie.Need-returns-2
-returns-2 c = rw (ne-eqb _ _ (c .if1 .left))
-
 pub note-spec : {M : Type 1} → statement M
-note-spec = tie.close (tie.spec (λ c. search needs) (λ c. search needs) returns returns-2)
+note-spec =
+    tie.close (tie.spec (λ c. search needs) (λ c. search needs) (λ c. rw (eq-eqb _ _ (c .if1 .taken))) (λ c. rw (ne-eqb _ _ (c .if1 .left))))

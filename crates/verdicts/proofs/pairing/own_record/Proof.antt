@@ -9,5 +9,4 @@ returns : tie.Need-returns
 returns c = let a = c .before .before .args in rw (List·getD-eq-default (a .marks .now) 0 {n = a .i} (c .if1 .taken))
 
 pub own-record-spec : {M : Type 1} → statement M
-own-record-spec =
-    tie.close (tie.spec returns (λ c. search needs) (λ c. search needs) (λ c κs. search needs) (λ c. search needs))
+own-record-spec = tie.close (tie.spec returns (λ c. search needs) (λ c. search needs) (λ c κs. search needs) (λ c. search needs))

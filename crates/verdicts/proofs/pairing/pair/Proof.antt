@@ -41,16 +41,9 @@ loop-holds : tie.Need-loop-holds Inv-loop μ-loop
 loop-holds c =
     let a = c .before .args in
     let e = c .before .pre .1 .1 .1 .1 in
-    (search needs, (ap length e ∙ length-replicate {A = ℕ} 512 0, subst (Marks (addressWord (a .records .now)) (a .base) (a .chunk) (a .n) 0) (sym e) (marks-none _ (a .base) (a .chunk) (a .n) 512 (c .before .pre .1 .1 .0))))
-
-read-requires : tie.Need-read-requires Inv-loop μ-loop
-read-requires c κs = search needs
-
-find-requires : tie.Need-find-requires Inv-loop μ-loop
-find-requires c κs = search needs
-
-enum-known-p : tie.Need-enum-known-p Inv-loop μ-loop
-enum-known-p c = search needs
+    let M = Marks (addressWord (a .records .now)) (a .base) (a .chunk) (a .n) 0 in
+    let none = subst M (sym e) (marks-none _ (a .base) (a .chunk) (a .n) 512 (c .before .pre .1 .1 .0)) in
+    (search needs, (ap length e ∙ length-replicate {A = ℕ} 512 0, none))
 
 mul-note : tie.Need-mul-note Inv-loop μ-loop
 mul-note c = let h = in-array (c .before) in omega arith
@@ -58,23 +51,11 @@ mul-note c = let h = in-array (c .before) in omega arith
 element-copy-out-note : tie.Need-element-copy-out-note Inv-loop μ-loop
 element-copy-out-note c = in-array (c .before)
 
-note-requires : tie.Need-note-requires Inv-loop μ-loop
-note-requires c κs = search needs
-
 mul-marks : tie.Need-mul-marks Inv-loop μ-loop
 mul-marks c = let h = in-array (c .before .before .before) in omega arith
 
 element-write-marks : tie.Need-element-write-marks Inv-loop μ-loop
 element-write-marks c = in-array (c .before .before .before)
-
-enum-told : tie.Need-enum-told Inv-loop μ-loop
-enum-told c = search needs
-
-add-j : tie.Need-add-j Inv-loop μ-loop
-add-j c = search needs
-
-loop-less : tie.Need-loop-less Inv-loop μ-loop
-loop-less c = search needs
 
 loop-again : tie.Need-loop-again Inv-loop μ-loop
 loop-again c =
@@ -93,11 +74,13 @@ loop-again c =
           let i = w .1 .given .0 .0 in
           let h = names (record { before = record { before = b; match = w .0 }; p = w .1 }) in
           let e = w .5 ∙ ap (set m i) (w .4 .ensures) in
-          (ap length e ∙ length-set m i _ ∙ v .1 .0, subst (M (suc j)) (sym e) (marks-hit word (a .base) (a .chunk) (a .n) j i m (s .pre .1 .1 .1 .0) (omega arith) (h .0) (h .1) (v .1 .1))))
+          let hit = marks-hit word (a .base) (a .chunk) (a .n) j i m (s .pre .1 .1 .1 .0) (omega arith) (h .0) (h .1) (v .1 .1) in
+          (ap length e ∙ length-set m i _ ∙ v .1 .0, subst (M (suc j)) (sym e) hit))
           (λ w. (
             ap length (w .2) ∙ v .1 .0,
             subst (M (suc j)) (sym (w .2)) (marks-miss word (a .base) (a .chunk) (a .n) j m
-                (λ i l e. place-missed (a .base) (a .chunk) (a .n) _ (s .pre .1 .1 .1 .0) (sym (b .find .ensures) ∙ w .1 .given .1) i l (b .before .read .ensures ∙ e)) (v .1 .1)),
+                (λ i l e. place-missed (a .base) (a .chunk) (a .n) _ (s .pre .1 .1 .1 .0) (sym (b .find .ensures) ∙ w .1 .given .1) i l
+                (b .before .read .ensures ∙ e)) (v .1 .1)),
           ))
           (c .match .came)),
     )
@@ -118,19 +101,5 @@ pub pair-spec : {M : Type 1} → statement M
 pair-spec =
     tie.close
     (tie.spec
-    Inv-loop
-    μ-loop
-    loop-holds
-    read-requires
-    find-requires
-    enum-known-p
-    mul-note
-    element-copy-out-note
-    note-requires
-    mul-marks
-    element-write-marks
-    enum-told
-    add-j
-    loop-less
-    loop-again
-    returns)
+    Inv-loop μ-loop loop-holds (λ c κs. search needs) (λ c κs. search needs) (λ c. search needs) mul-note element-copy-out-note
+    (λ c κs. search needs) mul-marks element-write-marks (λ c. search needs) (λ c. search needs) (λ c. search needs) loop-again returns)

@@ -20,35 +20,13 @@ loop-holds : tie.Need-loop-holds Inv-loop μ-loop
 unfolding repeated
 loop-holds c = search needs
 
-add-write-u32 : tie.Need-add-write-u32 Inv-loop μ-loop
-add-write-u32 c = search needs
-
-write-u32-requires : tie.Need-write-u32-requires Inv-loop μ-loop
-write-u32-requires c κs = search needs
-
-add-write-u32-2 : tie.Need-add-write-u32-2 Inv-loop μ-loop
-add-write-u32-2 c = search needs
-
-add-write-u32-3 : tie.Need-add-write-u32-3 Inv-loop μ-loop
-add-write-u32-3 c = search needs
-
-write-u32-requires-2 : tie.Need-write-u32-requires-2 Inv-loop μ-loop
-write-u32-requires-2 c κs = search needs
-
-add-i : tie.Need-add-i Inv-loop μ-loop
-add-i c = search needs
-
-loop-less : tie.Need-loop-less Inv-loop μ-loop
-loop-less c = search needs
-
 loop-again : tie.Need-loop-again Inv-loop μ-loop
 loop-again c =
-    let p = c .before .before .before .before .before .before .before .before .before in
-    let once = fill-more _ _ _ _ _ _ _ _ (p .loop .inv .3) (c .before .before .before .before .before .before .write-u32 .ensures) refl refl (omega arith) in
-    (search needs, search needs, search needs, fill-more _ _ _ _ _ _ _ _ once (c .before .before .write-u322 .ensures) (omega arith) (omega arith) (omega arith))
-
-same-length : tie.Need-same-length Inv-loop μ-loop
-same-length c = search needs
+    let w = c .before .before in
+    let v = w .before .before .before .before in
+    let p = v .before .before .before in
+    let once = fill-more _ _ _ _ _ _ _ _ (p .loop .inv .3) (v .write-u32 .ensures) refl refl (omega arith) in
+    (search needs, search needs, search needs, fill-more _ _ _ _ _ _ _ _ once (w .write-u322 .ensures) (omega arith) (omega arith) (omega arith))
 
 returns : tie.Need-returns Inv-loop μ-loop
 returns c = let e : c .before .loop .i ≡ c .before .before .before .args .len = omega arith in rw (← e) (c .before .loop .inv .3)
@@ -57,16 +35,5 @@ pub fill-spec : {M : Type 1} → statement M
 fill-spec =
     tie.close
     (tie.spec
-    Inv-loop
-    μ-loop
-    loop-holds
-    add-write-u32
-    write-u32-requires
-    add-write-u32-2
-    add-write-u32-3
-    write-u32-requires-2
-    add-i
-    loop-less
-    loop-again
-    same-length
-    returns)
+    Inv-loop μ-loop loop-holds (λ c. search needs) (λ c κs. search needs) (λ c. search needs) (λ c. search needs) (λ c κs. search needs)
+    (λ c. search needs) (λ c. search needs) loop-again (λ c. search needs) returns)

@@ -17,36 +17,15 @@ Inv-loop s at len w pattern i₀ i = (pattern ≡ bytesOf 4 w) × (i ≤ len) ×
 abbrev μ-loop : tie.MeasureT-loop
 μ-loop s at len w pattern i₀ i = len - i
 
-bytes4-requires : tie.Need-bytes4-requires Inv-loop μ-loop
-bytes4-requires c κs = search needs
-
-loop-holds : tie.Need-loop-holds Inv-loop μ-loop
-loop-holds c = search needs
-
-add-if1 : tie.Need-add-if1 Inv-loop μ-loop
-add-if1 c = search needs
-
-shared-slice-read-if1 : tie.Need-shared-slice-read-if1 Inv-loop μ-loop
-shared-slice-read-if1 c = search needs
-
-array-read-if1 : tie.Need-array-read-if1 Inv-loop μ-loop
-array-read-if1 c = search needs
-
 returns : tie.Need-returns Inv-loop μ-loop
 returns c =
-    let p = c .before .before .before in
-    sym (run-differs _ _ _ _ (omega arith) _ (omega arith) (p .loop .inv .2) (λ e. c .if1 .taken (e ∙ ap (λ (l : List ℕ). getD l (p .loop .i % 4) 0) (sym (p .loop .inv .0)))))
-
-add-i : tie.Need-add-i Inv-loop μ-loop
-add-i c = search needs
-
-loop-less : tie.Need-loop-less Inv-loop μ-loop
-loop-less c = search needs
+    let l = c .before .before .before .loop in
+    sym (run-differs _ _ _ _ (omega arith) _ (omega arith) (l .inv .2) (λ e. c .if1 .taken (e ∙ ap (λ (x : List ℕ). getD x (l .i % 4) 0) (sym (l .inv .0)))))
 
 loop-again : tie.Need-loop-again Inv-loop μ-loop
 loop-again c =
-    let p = c .before .before .before in
-    (search needs, search needs, below-more _ _ (p .loop .inv .2) (c .if1 .left ∙ ap (λ (l : List ℕ). getD l (p .loop .i % 4) 0) (p .loop .inv .0)))
+    let l = c .before .before .before .loop in
+    (search needs, search needs, below-more _ _ (l .inv .2) (c .if1 .left ∙ ap (λ (x : List ℕ). getD x (l .i % 4) 0) (l .inv .0)))
 
 returns-2 : tie.Need-returns-2 Inv-loop μ-loop
 returns-2 c =
@@ -57,15 +36,5 @@ pub first-difference-spec : {M : Type 1} → statement M
 first-difference-spec =
     tie.close
     (tie.spec
-    Inv-loop
-    μ-loop
-    bytes4-requires
-    loop-holds
-    add-if1
-    shared-slice-read-if1
-    array-read-if1
-    returns
-    add-i
-    loop-less
-    loop-again
-    returns-2)
+    Inv-loop μ-loop (λ c κs. search needs) (λ c. search needs) (λ c. search needs) (λ c. search needs) (λ c. search needs) returns
+    (λ c. search needs) (λ c. search needs) loop-again returns-2)

@@ -5,7 +5,9 @@ use Rattle.words.proofs.run.write_run.Statement.{statement}
 use Rattle.words.proofs.run.write_run.Tie as tie
 
 returns : tie.Need-returns
-returns c = let s = c .before .before .before .before .before .before in part-copied (s .args .s .now) (s .args .run .now) _ (s .args .at) (s .pre) (c .before .before .copy .ensures .1)
+returns c =
+    let s = c .before .before .before .before .before .before in
+    part-copied (s .args .s .now) (s .args .run .now) _ (s .args .at) (s .pre) (c .before .before .copy .ensures .1)
 
 pub write-run-spec : {M : Type 1} → statement M
 write-run-spec =

@@ -10,6 +10,4 @@ returns : tie.Need-returns
 returns c = c .join2 .ensures ∙ two-read _ _ (omega arith)
 
 pub read-u16-spec : {M : Type 1} → statement M
-read-u16-spec =
-    tie.close
-    (tie.spec (λ c. search needs) (λ c. search needs) (λ c. search needs) (λ c κs. search needs) returns)
+read-u16-spec = tie.close (tie.spec (λ c. search needs) (λ c. search needs) (λ c. search needs) (λ c κs. search needs) returns)

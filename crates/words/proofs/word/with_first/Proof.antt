@@ -8,8 +8,10 @@ use Rattle.words.proofs.word.with_first.Statement.{statement}
 use Rattle.words.proofs.word.with_first.Tie as tie
 
 returns : tie.Need-returns
-returns c = ap (bytesOf 4) (c .join4 .ensures) ∙ four-first _ _ _ _ _ (omega arith) (c .before .before .before .low .ensures) (c .before .before .low2 .ensures) (c .before .low3 .ensures)
+returns c =
+    let l = c .before in
+    ap (bytesOf 4) (c .join4 .ensures)
+    ∙ four-first _ _ _ _ _ (omega arith) (l .before .before .low .ensures) (l .before .low2 .ensures) (l .low3 .ensures)
 
 pub with-first-spec : {M : Type 1} → statement M
-with-first-spec =
-    tie.close (tie.spec (λ c κs. search needs) (λ c κs. search needs) (λ c κs. search needs) (λ c κs. search needs) returns)
+with-first-spec = tie.close (tie.spec (λ c κs. search needs) (λ c κs. search needs) (λ c κs. search needs) (λ c κs. search needs) returns)

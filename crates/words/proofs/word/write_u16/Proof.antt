@@ -6,9 +6,6 @@ use Rattle.words.proofs.Numbers.{two-stores}
 use Rattle.words.proofs.word.write_u16.Statement.{statement}
 use Rattle.words.proofs.word.write_u16.Tie as tie
 
-slice-write-s-2 : tie.Need-slice-write-s-2
-slice-write-s-2 c = simp length-set (omega arith)
-
 returns : tie.Need-returns
 returns c = two-stores _ _ _ _ (c .bytes2 .ensures)
 
@@ -16,11 +13,5 @@ pub write-u16-spec : {M : Type 1} → statement M
 write-u16-spec =
     tie.close
     (tie.spec
-    (λ c κs. search needs)
-    (λ c. search needs)
-    (λ c. search needs)
-    (λ c. search needs)
-    (λ c. search needs)
-    slice-write-s-2
-    (λ c. search needs)
-    returns)
+    (λ c κs. search needs) (λ c. search needs) (λ c. search needs) (λ c. search needs) (λ c. search needs)
+    (λ c. simp length-set (omega arith)) (λ c. search needs) returns)
