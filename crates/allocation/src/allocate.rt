@@ -149,7 +149,8 @@ fn commit(
     thread: u32,
 )
     requires { ⌜ byLengths Takes (lent sheet heap records) grant p ⌝ }
-    ensures { λ _. ⌜ after sheet heap records ≡ grantedAreas (before sheet heap records) grant uptime thread p ⌝ }
+    ensures { λ _. ⌜ after sheet heap records
+        ≡ grantedAreas (before sheet heap records) grant uptime thread p ⌝ }
 {
     let g = p.sheet;
     let at = p.buffer * g.chunk;
@@ -169,7 +170,8 @@ pub fn allocate(
     uptime: u32,
     thread: u32,
 ) -> Answer
-    ensures { λ r. ⌜ result r (after sheet heap records) ≡ allocateOf (before sheet heap records) grant uptime thread ⌝ }
+    ensures { λ r. ⌜ result r (after sheet heap records)
+        ≡ allocateOf (before sheet heap records) grant uptime thread ⌝ }
 {
     let planned = plan(sheet, heap, records, grant);
     match planned {

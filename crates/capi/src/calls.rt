@@ -39,7 +39,8 @@ pub extern "C" fn cg_lay_out(
     records: &mut [u8],
 ) -> u64
     ensures { λ r. ⌜ result r (after sheet heap records)
-        ≡ answered answerWord (layOutOf (before sheet heap records) cache «heap_base» «record_base» size count) ⌝ }
+        ≡ answered answerWord
+        (layOutOf (before sheet heap records) cache «heap_base» «record_base» size count) ⌝ }
 {
     answer::word(layout::lay_out(
         cache,
@@ -84,7 +85,8 @@ pub extern "C" fn cg_free(
     thread: u32,
 ) -> u64
     ensures { λ r. ⌜ result r (after sheet heap records)
-        ≡ answered answerWord (freeOf (before sheet heap records) address (grantOf whole size) uptime thread) ⌝ }
+        ≡ answered answerWord
+        (freeOf (before sheet heap records) address (grantOf whole size) uptime thread) ⌝ }
 {
     let given = grant(whole, size);
     answer::word(free::free(sheet, heap, records, address, given, uptime, thread))

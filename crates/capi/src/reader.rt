@@ -98,7 +98,8 @@ pub extern "C" fn cg_report(
     output: &mut [u8],
 ) -> u64
     ensures { λ r. ⌜ filling r (now (output .exit))
-        ≡ told answerWord (reportOf (before sheet heap records) (length (now (log .entry))) (now (output .entry))) ⌝ }
+        ≡ told answerWord (reportOf (before sheet heap records) (length (now (log .entry)))
+        (now (output .entry))) ⌝ }
 {
     word(answer::report(sheet, heap, records, log, output))
 }

@@ -1,7 +1,6 @@
 // The bytes of a chunk: the buffer, the redzone words R0 and R1, and the tag.
 ghost use mathlib.Core.Path.{_≡_};
 ghost use mathlib.Core.Bool.{true};
-ghost use Prim.Native.Nat.{_-_};
 ghost use lib.ListN.{length};
 ghost use Rattle.words.specs.Run.{repeated};
 ghost use Rattle.chunks.specs.Chunk.{ChunkLength, lawfulSize, redzone, chunkOf, bufferSize, freeChunk, grantedChunk, tagAt};
@@ -28,7 +27,8 @@ pub enum Grant {
 // Writes a whole chunk: a fill word again and again, R0, R1 and a tag.
 fn write(chunk: &mut [u8], fill: u32, r1: u32, tag: Tag)
     requires { ⌜ ChunkLength (length (now chunk)) ⌝ }
-    ensures { λ _. ⌜ now (chunk .exit) ≡ chunkOf (repeated (length (now (chunk .entry)) - 16) fill) redzone r1 (tag .t0) (tag .t1) ⌝ }
+    ensures { λ _. ⌜ now (chunk .exit)
+        ≡ chunkOf (repeated (bufferSize (now (chunk .entry))) fill) redzone r1 (tag .t0) (tag .t1) ⌝ }
 {
     let size = chunk.len() - 16;
     run::fill(chunk, 0, size, fill);

@@ -151,7 +151,8 @@ fn find<'a>(
 
 // Fills a lent row of findings, one for each buffer, or refuses and leaves it as it was. Rows past the last buffer stay.
 pub fn inspect(sheet: &[u8], heap: &[u8], records: &[u8], rows: &mut [Finding]) -> Answer
-    ensures { λ r. ⌜ filling r (now (rows .exit)) ≡ inspectOf (before sheet heap records) (now (rows .entry)) ⌝ }
+    ensures { λ r. ⌜ filling r (now (rows .exit))
+        ≡ inspectOf (before sheet heap records) (now (rows .entry)) ⌝ }
 {
     let begun = begin(sheet, heap, records, rows.len());
     let start = begun.start;
@@ -191,7 +192,8 @@ fn judge_rows<'a>(
     requires { ⌜ Ready (length (now heap)) start (now pairs) ⌝ }
     requires { ⌜ start .count * 3 ≤ length (now rows) ⌝ }
     ensures { λ _. ⌜ now (rows .exit)
-        ≡ sets (now (rows .entry)) 0 (rowsOf (foundBy (now (heap .entry)) start (now (pairs .entry)) (now (marks .entry))) (start .count)) ⌝ }
+        ≡ sets (now (rows .entry)) 0
+        (rowsOf (foundBy (now (heap .entry)) start (now (pairs .entry)) (now (marks .entry))) (start .count)) ⌝ }
 {
     let n = start.count;
     let mut i = 0;
@@ -205,7 +207,8 @@ fn judge_rows<'a>(
 pub(crate) fn survey_open(heap: &[u8], records: &[u8], g: Sheet, rows: &mut [u32]) -> Start
     requires { ⌜ Open (length (now heap)) (length (now records)) g ⌝ }
     requires { ⌜ g .count * 3 ≤ length (now rows) ⌝ }
-    ensures rows { λ _. ⌜ now (rows .exit) ≡ sets (now (rows .entry)) 0 (tableOf g (now (heap .entry)) (now (records .entry))) ⌝ }
+    ensures rows { λ _. ⌜ now (rows .exit)
+        ≡ sets (now (rows .entry)) 0 (tableOf g (now (heap .entry)) (now (records .entry))) ⌝ }
     ensures start { λ r. ⌜ r ≡ started g (now (records .entry)) ⌝ }
 {
     let begun = note(records, g);
@@ -218,7 +221,8 @@ pub(crate) fn survey_open(heap: &[u8], records: &[u8], g: Sheet, rows: &mut [u32
 
 // Fills a lent row of numbers, three for each buffer, or refuses and leaves it as it was.
 pub fn tabulate(sheet: &[u8], heap: &[u8], records: &[u8], rows: &mut [u32]) -> Answer
-    ensures { λ r. ⌜ filling r (now (rows .exit)) ≡ tabulateOf (before sheet heap records) (now (rows .entry)) ⌝ }
+    ensures { λ r. ⌜ filling r (now (rows .exit))
+        ≡ tabulateOf (before sheet heap records) (now (rows .entry)) ⌝ }
 {
     let opened = sheet::open(sheet, heap.len(), records.len());
     match opened {

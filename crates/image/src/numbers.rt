@@ -58,7 +58,8 @@ pub fn survey_numbers(
     chain: &mut [u32],
 ) -> Answer
     ensures { λ r. ⌜ numbering r (now (rows .exit)) (now (chain .exit))
-        ≡ surveyNumbersOf (before sheet heap records) (length (now (log .entry))) (now (rows .entry)) (now (chain .entry)) ⌝ }
+        ≡ surveyNumbersOf (before sheet heap records) (length (now (log .entry)))
+        (now (rows .entry)) (now (chain .entry)) ⌝ }
 {
     let opened = sheet::open_with_log(sheet, heap.len(), records.len(), log.len());
     match opened {

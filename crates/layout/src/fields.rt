@@ -32,7 +32,8 @@ fn write_long(s: &mut [u8], at: usize, tag: u8, body: u32)
 // Writes the first three fields, the addresses.
 fn write_addresses(s: &mut [u8], g: Sheet)
     requires { ⌜ length (now s) ≡ 48 ⌝ }
-    ensures { λ _. ⌜ now (s .exit) ≡ sets (now (s .entry)) 0 (field 1 4 (g .cache) ++ field 2 4 (g .heap) ++ field 3 4 (g .records)) ⌝ }
+    ensures { λ _. ⌜ now (s .exit)
+        ≡ sets (now (s .entry)) 0 (field 1 4 (g .cache) ++ field 2 4 (g .heap) ++ field 3 4 (g .records)) ⌝ }
 {
     write_long(s, 0, 1, g.cache);
     write_long(s, 7, 2, g.heap);
@@ -43,7 +44,8 @@ fn write_addresses(s: &mut [u8], g: Sheet)
 fn write_sizes(s: &mut [u8], g: Sheet)
     requires { ⌜ length (now s) ≡ 48 ⌝ }
     requires { ⌜ Lawful g ⌝ }
-    ensures { λ _. ⌜ now (s .exit) ≡ sets (now (s .entry)) 21 (field 4 2 (g .size) ++ field 5 2 (g .chunk) ++ field 6 2 (g .count)) ⌝ }
+    ensures { λ _. ⌜ now (s .exit)
+        ≡ sets (now (s .entry)) 21 (field 4 2 (g .size) ++ field 5 2 (g .chunk) ++ field 6 2 (g .count)) ⌝ }
 {
     write_short(s, 21, 4, g.size as u16);
     write_short(s, 26, 5, g.chunk as u16);

@@ -23,7 +23,8 @@ fn write_chunk(heap: &mut [u8], g: Sheet, i: usize)
     requires { ⌜ Lawful g ⌝ }
     requires { ⌜ i < g .count ⌝ }
     requires { ⌜ length (now heap) ≡ heapLength g ⌝ }
-    ensures { λ _. ⌜ now (heap .exit) ≡ sets (now (heap .entry)) (i * g .chunk) (freeChunk (g .size) (recordAddress g i)) ⌝ }
+    ensures { λ _. ⌜ now (heap .exit)
+        ≡ sets (now (heap .entry)) (i * g .chunk) (freeChunk (g .size) (recordAddress g i)) ⌝ }
 {
     let at = i * g.chunk;
     let end = at + g.chunk;

@@ -4,13 +4,17 @@ use mathlib.Core.List.{List, [], _∷_, _++_}
 use Prim.Native.Nat.{ℕ, zero, suc, _+_, _-_, _*_, _/_, _%_, _^_, _≤_, _<_}
 use native.Mathlib.Nat.{not-suc-le-zero, add-zero, zero-add, pow-suc, one-le-pow, pow-le-pow-right, lt-of-not-le}
 use native.Mathlib.Omega.{arith}
-use borrow.Author.Tests.{lt-ltb, le-ltb, le-leb, lt-leb}
+use borrow.Author.Tests.{lt-ltb, le-ltb, le-leb, lt-leb, leb-true}
 use lib.ListN.{length, length-append}
 use lib.Seq.{sets}
 use Rattle.io.specs.Digits.{glyph, digits, Fewest}
 use Rattle.words.proofs.Parts.{sets-next}
 use Rattle.verdicts.specs.declared.chain.Ending.{Ending}
-use Rattle.lines.specs.Text.{decimalWith, headerOf, linesOf, chainLineOf, faultsIn, faultsOf, textOf, Wrote, writtenOf, outputOf, WrittenIf}
+use Rattle.lines.specs.Text.{decimalWith, headerOf, linesOf, chainLineOf, faultsIn, faultsOf, textOf, Wrote, writing}
+use Rattle.lines.specs.declared.text.Written.{Written}
+use Rattle.area.specs.Filling.{Filling, filling}
+use Rattle.words.proofs.Tests.{by-test}
+use lib.Dec.{leb}
 use Rattle.lines.specs.declared.text.Written.the-variants.{Length, Short}
 
 -- ---- pieces
@@ -80,16 +84,22 @@ nothing-put (x ∷ m) t o p w = let z : suc (length m) ≡ 0 = w .long in absurd
 
 -- the two ends of a text, of which the first run only counted
 module _ (t o m : List ℕ) (need : ℕ) (w : Wrote [] 0 t m need) where
-  pub too-short : length (m ++ o) < need → (Short ≡ writtenOf t o) × ((m ++ o ≡ outputOf t o) × WrittenIf (length o) Short)
+  pub too-short : length (m ++ o) < need → filling Short (m ++ o) ≡ writing t o
   too-short h =
       let k = nothing-put m t o need w in
       let l : length o < length t = omega (arith, ap length k, w .ends) in
-      simp (lt-leb (length t) (length o) l) (refl, (k, tt))
+      simp (lt-leb (length t) (length o) l) (ap (filling Short) k)
 
-  pub long-enough : need ≤ length (m ++ o) → {x : List ℕ} {r : ℕ} → Wrote (m ++ o) 0 t x r → r ≤ 65535
-      → (Length r ≡ writtenOf t o) × ((x ≡ outputOf t o) × WrittenIf (length o) (Length r))
-  long-enough h {x} {r} v few =
+  pub long-enough : need ≤ length (m ++ o) → {x : List ℕ} {r : ℕ} → Wrote (m ++ o) 0 t x r → filling (Length r) x ≡ writing t o
+  long-enough h {x} {r} v =
       let k = nothing-put m t o need w in
       let l : length t ≤ length o = omega (arith, ap length k, w .ends) in
       let e = v .filled (omega (arith, w .ends, v .ends)) ∙ ap (λ (y : List ℕ). sets y 0 t) k in
-      simp (le-leb (length t) (length o) l) (ap Length (v .ends ∙ zero-add (length t)), (e, (omega (arith, v .ends), few)))
+      simp (le-leb (length t) (length o) l) (rw (v .ends ∙ zero-add (length t), e))
+
+-- a text that was written fits the output
+pub written-fits : (t o : List ℕ) (k : ℕ) → writing t o .answer ≡ Length k → k ≤ length o
+written-fits t o k =
+    by-test (λ (x : Filling Written ℕ). x .answer ≡ Length k → k ≤ length o) (leb (length t) (length o))
+    (λ q e. let z : length t ≡ k = cc in subst (λ (n : ℕ). n ≤ length o) z (leb-true _ _ q))
+    (λ q e. absurd (let z : _≡_ {A = ℕ} 0 1 = cc in omega arith))

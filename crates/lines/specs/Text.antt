@@ -5,9 +5,12 @@ use mathlib.Core.List.{List, [], _∷_, _++_}
 use Prim.Native.Char.{code}
 use Prim.Native.Nat.{ℕ, zero, suc, _+_, _*_, _/_, _%_, _≤_}
 use Prim.Native.String.{String, [] as none, _∷_ as _then_}
-use lib.Dec.{eqb, leb, ltb}
+use lib.Dec.{eqb, ltb}
 use lib.ListN.{length, getD}
 use lib.Seq.{sets}
+use denote.Ref.{RefT, now}
+use denote.Triple.Both.{Both}
+use Rattle.area.specs.Filling.{Filling, filling, ifRoom}
 use Rattle.words.specs.Word.{flat}
 use Rattle.words.specs.Run.{pick}
 use Rattle.words.specs.Sum.{total}
@@ -104,21 +107,25 @@ rowValue rows i = getD rows (3 * i + 2) 0
 
 -- ---- the output
 
+-- the text of such rows, of n buffers and of a chain
+abbrev pub rowsText : List ℕ → ℕ → ℕ → Ending → List ℕ
+rowsText rows n met ending = textOf (rowNumber rows) (rowValue rows) n met ending
+
 -- the text, which ends at `next`, was put into `entry` from `at` on, if the output goes so far
 pub record Wrote (entry : List ℕ) (at : ℕ) (text exit : List ℕ) (next : ℕ) : Type 0 where
   pub long : length exit ≡ length entry
   pub filled : next ≤ length entry → exit ≡ sets entry at text
   pub ends : next ≡ at + length text
 
--- G8 (the length of the text is answered), X11 (the output is too short)
-abbrev pub writtenOf : List ℕ → List ℕ → Written
-writtenOf text output = pick (leb (length text) (length output)) (Length (length text)) Short
+-- the same of an output that a function is lent
+abbrev pub Put : Both (RefT (List ℕ)) (RefT (List ℕ)) → ℕ → List ℕ → ℕ → Type 0
+Put output at text next = Wrote (now (output .entry)) at text (now (output .exit)) next
 
--- G8 (the output behind the text stays), E1 (an output that is too short stays as it was)
-abbrev pub outputOf : List ℕ → List ℕ → List ℕ
-outputOf text output = pick (leb (length text) (length output)) (sets output 0 text) output
+-- G8, X11 (all or nothing): the length of the text where there is room for it, at the output's start; output past it stays
+abbrev pub writing : List ℕ → List ℕ → Filling Written ℕ
+writing text output = ifRoom (length text) output (filling (Length (length text)) (sets output 0 text)) Short
 
--- what is known of the answer: the text fits an output of n bytes, and is not long
-abbrev pub WrittenIf : ℕ → Written → Type 0
-WrittenIf n (Length k) = (k ≤ n) × (k ≤ 65535)
-WrittenIf n Short = Unit {0}
+-- what is known of a text that was written: it is not long
+abbrev pub WrittenIf : Written → Type 0
+WrittenIf (Length k) = k ≤ 65535
+WrittenIf Short = Unit {0}

@@ -4,7 +4,8 @@ ghost use mathlib.Core.Path.{_≡_};
 ghost use mathlib.Core.List.{_++_};
 ghost use Prim.Native.Nat.{_+_, _*_, _^_, _≤_, _<_};
 ghost use lib.ListN.{length};
-ghost use Rattle.lines.specs.Text.{decimalOf, headerOf, hasOffset, faultLineOf, lineOf, chainLineOf, faultOf, faultsOf, labelled, rowNumber, rowValue, textOf, Wrote, writtenOf, outputOf, WrittenIf, refusalLineOf};
+ghost use Rattle.lines.specs.Text.{decimalOf, headerOf, hasOffset, faultLineOf, lineOf, chainLineOf, faultOf, faultsOf, labelled, rowsText, Put, writing, WrittenIf, refusalLineOf};
+ghost use Rattle.area.specs.Filling.{filling};
 ghost use Rattle.area.specs.Refusal.{refusalNumber};
 use area::refusal;
 use area::refusal::Refusal;
@@ -21,7 +22,7 @@ pub enum Written {
 // put nowhere, so that an empty output only counts.
 fn put(output: &mut [u8], at: usize, piece: &[u8]) -> usize
     requires { ⌜ at + length (now piece) < 2 ^ 64 ⌝ }
-    ensures { λ r. ⌜ Wrote (now (output .entry)) at (now (piece .entry)) (now (output .exit)) r ⌝ }
+    ensures { λ r. ⌜ Put output at (now (piece .entry)) r ⌝ }
 {
     let end = at + piece.len();
     if output.len() < end {
@@ -34,7 +35,7 @@ fn put(output: &mut [u8], at: usize, piece: &[u8]) -> usize
 // Puts the number in decimal.
 fn put_decimal(output: &mut [u8], at: usize, n: u64) -> usize
     requires { ⌜ at < 2 ^ 63 ⌝ }
-    ensures put { λ r. ⌜ Wrote (now (output .entry)) at (decimalOf n) (now (output .exit)) r ⌝ }
+    ensures put { λ r. ⌜ Put output at (decimalOf n) r ⌝ }
     ensures short { λ r. ⌜ r ≤ at + 20 ⌝ }
 {
     let mut digits = [0u8; 20];
@@ -46,7 +47,7 @@ fn put_decimal(output: &mut [u8], at: usize, n: u64) -> usize
 fn put_field(output: &mut [u8], at: usize, n: u64, word: &[u8]) -> usize
     requires { ⌜ at < 2 ^ 62 ⌝ }
     requires { ⌜ length (now word) ≤ 20 ⌝ }
-    ensures put { λ r. ⌜ Wrote (now (output .entry)) at (decimalOf n ++ now (word .entry)) (now (output .exit)) r ⌝ }
+    ensures put { λ r. ⌜ Put output at (decimalOf n ++ now (word .entry)) r ⌝ }
     ensures short { λ r. ⌜ r ≤ at + 40 ⌝ }
 {
     let a = put_decimal(output, at, n);
@@ -55,7 +56,7 @@ fn put_field(output: &mut [u8], at: usize, n: u64, word: &[u8]) -> usize
 
 // Puts the first line.
 fn put_header(output: &mut [u8]) -> usize
-    ensures put { λ r. ⌜ Wrote (now (output .entry)) 0 headerOf (now (output .exit)) r ⌝ }
+    ensures put { λ r. ⌜ Put output 0 headerOf r ⌝ }
     ensures short { λ r. ⌜ r ≤ 14 ⌝ }
 {
     put(output, 0, b"heap report 1\n")
@@ -71,7 +72,7 @@ fn has_offset(number: u32) -> bool
 // Puts the line of buffer i, which has a fault, by the number and the value of its verdict.
 fn put_fault(output: &mut [u8], at: usize, i: usize, number: u32, value: u32) -> usize
     requires { ⌜ at < 2 ^ 61 ⌝ }
-    ensures put { λ r. ⌜ Wrote (now (output .entry)) at (faultLineOf i number value) (now (output .exit)) r ⌝ }
+    ensures put { λ r. ⌜ Put output at (faultLineOf i number value) r ⌝ }
     ensures short { λ r. ⌜ r ≤ at + 120 ⌝ }
 {
     let a = put_field(output, at, i as u64, b" fault ");
@@ -85,7 +86,7 @@ fn put_fault(output: &mut [u8], at: usize, i: usize, number: u32, value: u32) ->
 // Puts the line of buffer i, by the number and the value of its verdict.
 fn put_line(output: &mut [u8], at: usize, i: usize, number: u32, value: u32) -> usize
     requires { ⌜ at < 2 ^ 61 ⌝ }
-    ensures put { λ r. ⌜ Wrote (now (output .entry)) at (lineOf i number value) (now (output .exit)) r ⌝ }
+    ensures put { λ r. ⌜ Put output at (lineOf i number value) r ⌝ }
     ensures short { λ r. ⌜ r ≤ at + 120 ⌝ }
 {
     if number == 0 {
@@ -104,7 +105,7 @@ fn put_line(output: &mut [u8], at: usize, i: usize, number: u32, value: u32) -> 
 // Puts the chain line.
 fn put_chain(output: &mut [u8], at: usize, met: usize, ending: Ending) -> usize
     requires { ⌜ at < 2 ^ 61 ⌝ }
-    ensures put { λ r. ⌜ Wrote (now (output .entry)) at (chainLineOf met ending) (now (output .exit)) r ⌝ }
+    ensures put { λ r. ⌜ Put output at (chainLineOf met ending) r ⌝ }
     ensures short { λ r. ⌜ r ≤ at + 120 ⌝ }
 {
     let a = put(output, at, b"chain ");
@@ -122,7 +123,7 @@ fn put_chain(output: &mut [u8], at: usize, met: usize, ending: Ending) -> usize
 fn put_labelled(output: &mut [u8], at: usize, word: &[u8], n: u64) -> usize
     requires { ⌜ at < 2 ^ 61 ⌝ }
     requires { ⌜ length (now word) ≤ 20 ⌝ }
-    ensures put { λ r. ⌜ Wrote (now (output .entry)) at (labelled (now (word .entry)) n) (now (output .exit)) r ⌝ }
+    ensures put { λ r. ⌜ Put output at (labelled (now (word .entry)) n) r ⌝ }
     ensures short { λ r. ⌜ r ≤ at + 60 ⌝ }
 {
     let a = put(output, at, word);
@@ -132,7 +133,7 @@ fn put_labelled(output: &mut [u8], at: usize, word: &[u8], n: u64) -> usize
 // Puts the last line.
 fn put_faults(output: &mut [u8], at: usize, faults: usize) -> usize
     requires { ⌜ at < 2 ^ 61 ⌝ }
-    ensures put { λ r. ⌜ Wrote (now (output .entry)) at (faultsOf faults) (now (output .exit)) r ⌝ }
+    ensures put { λ r. ⌜ Put output at (faultsOf faults) r ⌝ }
     ensures short { λ r. ⌜ r ≤ at + 60 ⌝ }
 {
     put_labelled(output, at, b"faults ", faults as u64)
@@ -152,7 +153,7 @@ fn fault(number: u32) -> usize
 fn put_report(output: &mut [u8], rows: &[u32], n: usize, met: usize, ending: Ending) -> usize
     requires { ⌜ n ≤ 512 ⌝ }
     requires { ⌜ 3 * n ≤ length (now rows) ⌝ }
-    ensures put { λ r. ⌜ Wrote (now (output .entry)) 0 (textOf (rowNumber (now (rows .entry))) (rowValue (now (rows .entry))) n met ending) (now (output .exit)) r ⌝ }
+    ensures put { λ r. ⌜ Put output 0 (rowsText (now (rows .entry)) n met ending) r ⌝ }
     ensures short { λ r. ⌜ r ≤ 65535 ⌝ }
 {
     let mut at = put_header(output);
@@ -178,9 +179,8 @@ pub fn write_report(
 ) -> Written
     requires { ⌜ n ≤ 512 ⌝ }
     requires { ⌜ 3 * n ≤ length (now rows) ⌝ }
-    ensures answer { λ r. ⌜ r ≡ writtenOf (textOf (rowNumber (now (rows .entry))) (rowValue (now (rows .entry))) n met ending) (now (output .entry)) ⌝ }
-    ensures output { λ _. ⌜ now (output .exit) ≡ outputOf (textOf (rowNumber (now (rows .entry))) (rowValue (now (rows .entry))) n met ending) (now (output .entry)) ⌝ }
-    ensures fits { λ r. ⌜ WrittenIf (length (now (output .entry))) r ⌝ }
+    ensures { λ r. ⌜ filling r (now (output .exit)) ≡ writing (rowsText (now (rows .entry)) n met ending) (now (output .entry)) ⌝ }
+    ensures { λ r. ⌜ WrittenIf r ⌝ }
 {
     let need = put_report(&mut output[..0], rows, n, met, ending);
     if output.len() < need {
@@ -191,7 +191,7 @@ pub fn write_report(
 
 // Puts the line of a refusal.
 fn put_refusal(output: &mut [u8], number: u32) -> usize
-    ensures put { λ r. ⌜ Wrote (now (output .entry)) 0 (refusalLineOf number) (now (output .exit)) r ⌝ }
+    ensures put { λ r. ⌜ Put output 0 (refusalLineOf number) r ⌝ }
     ensures short { λ r. ⌜ r ≤ 60 ⌝ }
 {
     put_labelled(output, 0, b"refused ", number as u64)
@@ -199,9 +199,7 @@ fn put_refusal(output: &mut [u8], number: u32) -> usize
 
 // Writes `refused N` and a line feed to the output's start and answers its length; or nothing, where the output is too short.
 pub fn write_refusal(why: Refusal, output: &mut [u8]) -> Written
-    ensures answer { λ r. ⌜ r ≡ writtenOf (refusalLineOf (refusalNumber why)) (now (output .entry)) ⌝ }
-    ensures output { λ _. ⌜ now (output .exit) ≡ outputOf (refusalLineOf (refusalNumber why)) (now (output .entry)) ⌝ }
-    ensures fits { λ r. ⌜ WrittenIf (length (now (output .entry))) r ⌝ }
+    ensures { λ r. ⌜ filling r (now (output .exit)) ≡ writing (refusalLineOf (refusalNumber why)) (now (output .entry)) ⌝ }
 {
     let number = refusal::number(why);
     let need = put_refusal(&mut output[..0], number);

@@ -1,10 +1,10 @@
 -- What a survey into a row for 512 buffers tells the report, and that the report's text speaks only of the buffers there are. Assumes nothing.
-use mathlib.Core.Path.{_≡_, refl, sym, ap, _∙_, subst}
+use mathlib.Core.Path.{_≡_, refl, sym, ap, _∙_}
 use mathlib.Core.List.{List}
 use Prim.Native.Nat.{ℕ, _+_, _*_, _≤_, _<_}
 use native.Mathlib.Nat.{mul-comm}
 use native.Mathlib.Omega.{arith}
-use borrow.Author.Tests.{le-leb, leb-true}
+use borrow.Author.Tests.{le-leb}
 use lib.ListN.{length, getD}
 use lib.Seq.{sets}
 use Rattle.words.proofs.Parts.{flat-same}
@@ -19,15 +19,15 @@ use Rattle.image.specs.declared.inspect.Overview.{Overview}
 use Rattle.area.specs.declared.refusal.Refusal.{Refusal}
 use Rattle.area.specs.declared.refusal.Refusal.the-variants.{ShortOutput}
 use Rattle.opening.proofs.Opens.{logged-known, by-opened}
-use Rattle.words.proofs.Tests.{by-test}
 use Rattle.opening.specs.Areas.{Areas}
 use Rattle.area.specs.Filling.{Filling, filling, unfilled, ifRoom}
 use Rattle.area.specs.declared.refusal.Answer.{Answer}
 use Rattle.area.specs.declared.refusal.Answer.the-variants.{Value, Refused}
 use Rattle.lines.specs.declared.text.Written.{Written}
-use lib.Dec.{leb}
+use Rattle.lines.specs.declared.text.Written.the-variants as text-written
+use Rattle.lines.proofs.Texts.{written-fits}
 use Rattle.image.proofs.Findings.{finding}
-use Rattle.lines.specs.Text.{textOf, lineOf, faultOf, rowNumber, rowValue}
+use Rattle.lines.specs.Text.{writing, textOf, lineOf, faultOf, rowNumber, rowValue}
 use Rattle.report.specs.Answer.{reportText, reportedBy, reporting, reportOf}
 use Rattle.opening.specs.declared.sheet.Opened.the-variants as opened
 use Rattle.image.specs.declared.inspect.Surveyed.{Surveyed}
@@ -122,7 +122,8 @@ report-fits a l output k =
     (λ why q. absurd (let z : _≡_ {A = ℕ} 0 1 = cc in omega arith))
   where
     go : (text : List ℕ) → reporting text output .answer ≡ Value k → k ≤ length output
-    go text =
-        by-test (λ (w : Written). reportedBy w ≡ Value k → k ≤ length output) (leb (length text) (length output))
-        (λ t q. let z : length text ≡ k = cc in subst (λ (n : ℕ). n ≤ length output) z (leb-true _ _ t))
-        (λ t q. absurd (let z : _≡_ {A = ℕ} 0 1 = cc in omega arith))
+    go text q = written (writing text output .answer) refl q
+      where
+        written : (w : Written) → writing text output .answer ≡ w → reportedBy w ≡ Value k → k ≤ length output
+        written (text-written.Length n) e f = let z : n ≡ k = cc in written-fits text output k (e ∙ ap text-written.Length z)
+        written text-written.Short e f = absurd (let z : _≡_ {A = ℕ} 0 1 = cc in omega arith)

@@ -7,12 +7,12 @@ use Rattle.opening.specs.Sheet.{openedWithLog, onOpened}
 use Rattle.verdicts.specs.Judge.{verdictOf, imageChain}
 use Rattle.opening.specs.declared.sheet.Sheet.{Sheet}
 use Rattle.area.specs.declared.refusal.Refusal.the-variants.{ShortOutput}
-use Rattle.lines.specs.Text.{textOf, writtenOf, outputOf}
+use Rattle.lines.specs.Text.{textOf, writing}
 use Rattle.lines.specs.declared.text.Written.{Written}
 use Rattle.lines.specs.declared.text.Written.the-variants as written
 use Rattle.area.specs.declared.refusal.Answer.{Answer}
 use Rattle.area.specs.declared.refusal.Answer.the-variants.{Value, Refused}
-use Rattle.area.specs.Filling.{Filling, filling, unfilled}
+use Rattle.area.specs.Filling.{Filling, unfilled, told}
 use Rattle.opening.specs.Areas.{Areas}
 
 -- G3 (the text of an image): each buffer's verdict, the records that the chain meets and how it ends
@@ -28,7 +28,7 @@ reportedBy written.Short = Refused ShortOutput
 
 -- G8 (the length of the text): a text is reported, all of it or nothing
 abbrev pub reporting : List ℕ → List ℕ → Filling Answer ℕ
-reporting text output = filling (reportedBy (writtenOf text output)) (outputOf text output)
+reporting text output = told reportedBy (writing text output)
 
 -- G3 (the report), after E3 with the log
 unfoldable pub reportOf : Areas → ℕ → List ℕ → Filling Answer ℕ

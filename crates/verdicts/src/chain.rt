@@ -42,7 +42,8 @@ fn walk(records: &&[u8], base: u32, n: usize, word: u32, marks: &mut [u8; 512], 
     requires { ⌜ n ≤ 512 ⌝ }
     requires { ⌜ length (now marks) ≡ 512 ⌝ }
     requires { ⌜ met + unmet (now marks) ≤ 512 ⌝ }
-    ensures { λ r. ⌜ WalkOf (now (now (records .entry))) base n word (now (marks .entry)) met r (now (marks .exit)) ⌝ }
+    ensures { λ r. ⌜ WalkOf (now (now (records .entry))) base n word
+        (now (marks .entry)) met r (now (marks .exit)) ⌝ }
 {
     if word == 0 {
         return pack(met, word);
@@ -76,7 +77,8 @@ pub fn walk_from(records: &[u8], base: u32, n: usize, head: u32, marks: &mut [u8
     requires { ⌜ now marks ≡ replicate 512 0 ⌝ }
     ensures met { λ r. ⌜ r .met ≡ length (chainOf (now (records .entry)) base n head .met) ⌝ }
     ensures ending { λ r. ⌜ r .ending ≡ chainOf (now (records .entry)) base n head .ending ⌝ }
-    ensures marked { λ _. ⌜ now (marks .exit) ≡ marksOf 512 (chainOf (now (records .entry)) base n head .met) ⌝ }
+    ensures marked { λ _. ⌜ now (marks .exit)
+        ≡ marksOf 512 (chainOf (now (records .entry)) base n head .met) ⌝ }
 {
     let r = walk(&records, base, n, head, marks, 0);
     let met = (r / WORD_VALUES) as usize;

@@ -16,7 +16,7 @@ returns-2 c =
     let p = i .before .before .before in
     let q = c .before .before .put-refusal2 in
     rw (← p .before .before .number .ensures)
-    (long-enough _ _ _ _ (p .put-refusal .ensures .0) (i .if1 .left) (q .ensures .0) (omega (arith, q .ensures .1)))
+    (long-enough _ _ _ _ (p .put-refusal .ensures .0) (i .if1 .left) (q .ensures .0))
 
 pub write-refusal-spec : {M : Type 1} → statement M
 write-refusal-spec =

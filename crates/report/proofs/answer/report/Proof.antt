@@ -21,7 +21,9 @@ enum-told : tie.Need-enum-told
 enum-told c = search needs
 
 cast-t22 : tie.Need-cast-t22
-cast-t22 c = let w = c .before .before .before .before .before .write-report in let k = subst (WrittenIf _) (c .before .written .given .1) (w .ensures .1 .1) in omega (arith, k .1)
+cast-t22 c =
+    let w = c .before .before .before .before .before .write-report in
+    omega (arith, subst WrittenIf (c .before .written .given .1) (w .ensures .1))
 
 returns : tie.Need-returns
 returns c =
@@ -32,13 +34,13 @@ returns-2 : tie.Need-returns-2
 returns-2 c =
     let w = c .before .before .before .before .write-report in
     let v = c .before .before .before .before .before .before .before .before in
-    rw (report-image _ _ _ _ (lit≤ tt) _ _ _ (v .before .before .before .survey .ensures) (v .surveyed2 .given .1), ← w .ensures .0, c .enum-told .given .1, w .ensures .1 .0)
+    rw (report-image _ _ _ _ (lit≤ tt) _ _ _ (v .before .before .before .survey .ensures) (v .surveyed2 .given .1), ← w .ensures .0, c .enum-told .given .1)
 
 returns-3 : tie.Need-returns-3
 returns-3 c =
     let w = c .before .before .before .before .before .write-report in
     let v = c .before .before .before .before .before .before .before .before .before in
-    rw (report-image _ _ _ _ (lit≤ tt) _ _ _ (v .before .before .before .survey .ensures) (v .surveyed2 .given .1), ← w .ensures .0, c .before .written .given .1, w .ensures .1 .0)
+    rw (report-image _ _ _ _ (lit≤ tt) _ _ _ (v .before .before .before .survey .ensures) (v .surveyed2 .given .1), ← w .ensures .0, c .before .written .given .1)
 
 pub report-spec : {M : Type 1} → statement M
 report-spec =
