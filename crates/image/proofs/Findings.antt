@@ -95,7 +95,8 @@ marked-met n c marks j e h =
     ap (λ (m : List ℕ). not (eqb (getD m j 0) 0)) e ∙ ap (λ (x : ℕ). not (eqb x 0)) (mark-at n (c .met) j h) ∙ mark-met (occ j (c .met))
 
 -- what is found by the marks is the finding
-module _ (g : Sheet) (heap records pairs marks : List ℕ) (few : g .count ≤ 512) (p : Paired records (g .heap) (g .chunk) (g .count) pairs) (e : marks ≡ marksOf 512 (imageChain g records .met)) where
+module _ (g : Sheet) (heap records pairs marks : List ℕ) (few : g .count ≤ 512)
+    (p : Paired records (g .heap) (g .chunk) (g .count) pairs) (e : marks ≡ marksOf 512 (imageChain g records .met)) where
   found-is : (i : ℕ) → i < g .count → foundBy heap (started g records) pairs marks i ≡ findingOf g heap records i
   unfolding verdictOf
   found-is i h =
@@ -112,7 +113,8 @@ module _ (g : Sheet) (heap records pairs marks : List ℕ) (few : g .count ≤ 5
 -- ---- what is begun
 
 -- what is noted of an open image is what its buffers are judged by
-pub ready : (h : ℕ) (g : Sheet) (records pairs : List ℕ) → Open h (length records) g → Paired records (g .heap) (g .chunk) (g .count) pairs → Ready h (started g records) pairs
+pub ready : (h : ℕ) (g : Sheet) (records pairs : List ℕ) → Open h (length records) g
+    → Paired records (g .heap) (g .chunk) (g .count) pairs → Ready h (started g records) pairs
 ready h g records pairs o p = record { law = o .law; long = o .heapLong; all = refl; paired = paired-in records (g .heap) (g .chunk) (g .count) pairs p }
 
 -- an inspection that is refused

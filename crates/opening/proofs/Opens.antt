@@ -10,7 +10,8 @@ use lib.ListN.{length}
 use Rattle.words.specs.Run.{pick}
 use Rattle.area.specs.declared.refusal.Refusal.{Refusal}
 use Rattle.area.specs.declared.refusal.Refusal.the-variants.{BadSheet, BadNumber, BadLength}
-use Rattle.opening.specs.Sheet.{Open, shaped, sheetOf, lawful, heapLength, recordsLength, lengthsRight, measured, numbered, openedOf, onOpened, logRight, openedWithLog, areasOf, lengthsOf}
+use Rattle.opening.specs.Sheet.{Open, shaped, sheetOf, lawful, heapLength, recordsLength, lengthsRight, areasOf, lengthsOf}
+use Rattle.opening.specs.Sheet.{measured, numbered, openedOf, onOpened, logRight, openedWithLog}
 use Rattle.opening.specs.declared.sheet.Sheet.{Sheet}
 use Rattle.opening.specs.declared.sheet.Lengths.the-variants as lengths
 use Rattle.opening.specs.declared.sheet.Opened.{Opened}
@@ -75,7 +76,7 @@ lengths-known s h r e = go (shaped s) (lawful (sheetOf s)) refl e
     go false b q f = absurd (let z : _≡_ {A = ℕ} 0 1 = cc in omega arith)
 
 -- what holds of an image that opens, and of every refusal, holds by the opening
-pub by-opened : {A : Type 0} {f : Sheet → A} {shut : Refusal → A} (P : A → Type 0) (o : Opened) → ((g : Sheet) → o ≡ Image g → P (f g)) → ((why : Refusal) → P (shut why))
-    → P (onOpened o f shut)
+pub by-opened : {A : Type 0} {f : Sheet → A} {shut : Refusal → A} (P : A → Type 0) (o : Opened)
+    → ((g : Sheet) → o ≡ Image g → P (f g)) → ((why : Refusal) → P (shut why)) → P (onOpened o f shut)
 by-opened P (Image g) h k = h g refl
 by-opened P (Refused why) h k = k why

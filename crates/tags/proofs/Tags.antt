@@ -82,6 +82,7 @@ decoded-within code most s e = go (eqb (code % 251) 1 && (leb 1 (code / 251) && 
         → (1 ≤ s) × (s ≤ most)
     go true t f =
         let z : code / 251 ≡ s = cc in
-        let both = and-eq-true-iff (leb 1 (code / 251)) (leb (code / 251) most) .0 (and-eq-true-iff (eqb (code % 251) 1) (leb 1 (code / 251) && leb (code / 251) most) .0 t .1) in
+        let size = and-eq-true-iff (eqb (code % 251) 1) (leb 1 (code / 251) && leb (code / 251) most) .0 t .1 in
+        let both = and-eq-true-iff (leb 1 (code / 251)) (leb (code / 251) most) .0 size in
         rw (← z) (leb-true 1 (code / 251) (both .0), leb-true (code / 251) most (both .1))
     go false t f = absurd (let z : _≡_ {A = ℕ} 0 1 = cc in omega arith)

@@ -4,7 +4,9 @@ use Rattle.capi.proofs.calls.cg_allocate.Statement.{statement}
 use Rattle.capi.proofs.calls.cg_allocate.Tie as tie
 
 returns : tie.Need-returns
-returns c = let a = c .before .before .before .before .before .before .before in rw (← a .before .before .before .before .grant .ensures, ← a .allocate .ensures, c .word .ensures)
+returns c =
+    let a = c .before .before .before .before .before .before .before in
+    rw (← a .before .before .before .before .grant .ensures, ← a .allocate .ensures, c .word .ensures)
 
 pub cg-allocate-spec : {M : Type 1} → statement M
 cg-allocate-spec =

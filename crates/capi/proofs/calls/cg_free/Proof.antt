@@ -4,7 +4,9 @@ use Rattle.capi.proofs.calls.cg_free.Statement.{statement}
 use Rattle.capi.proofs.calls.cg_free.Tie as tie
 
 returns : tie.Need-returns
-returns c = let a = c .before .before .before .before .before .before .before in rw (← a .before .before .before .before .grant .ensures, ← a .free .ensures, c .word .ensures)
+returns c =
+    let a = c .before .before .before .before .before .before .before in
+    rw (← a .before .before .before .before .grant .ensures, ← a .free .ensures, c .word .ensures)
 
 pub cg-free-spec : {M : Type 1} → statement M
 cg-free-spec =

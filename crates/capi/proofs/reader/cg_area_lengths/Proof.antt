@@ -10,7 +10,9 @@ use Rattle.capi.proofs.reader.cg_area_lengths.Tie as tie
 
 returns : tie.Need-returns
 unfolding areaLengthsOf
-returns c = rw (← c .before .before .before .before .before .area-lengths .ensures, c .before .before .before .asked2 .given .1, lt-leb _ _ (c .before .if1 .taken), c .refused2 .ensures)
+returns c =
+    let a = c .before .before .before in
+    rw (← a .before .before .area-lengths .ensures, a .asked2 .given .1, lt-leb _ _ (c .before .if1 .taken), c .refused2 .ensures)
 
 cast-lengths : tie.Need-cast-lengths
 cast-lengths c = omega (arith, lengths-known _ _ _ (sym (c .before .before .before .before .area-lengths .ensures) ∙ c .before .before .asked2 .given .1) .0)
@@ -24,7 +26,9 @@ returns-2 c = rw (← c .before .before .before .before .area-lengths .ensures, 
 
 returns-3 : tie.Need-returns-3
 unfolding areaLengthsOf
-returns-3 c = rw (← c .before .before .before .before .before .area-lengths .ensures, c .before .before .before .asked2 .given .1, le-leb _ _ (c .before .if1 .left), c .accepted .ensures)
+returns-3 c =
+    let a = c .before .before .before in
+    rw (← a .before .before .area-lengths .ensures, a .asked2 .given .1, le-leb _ _ (c .before .if1 .left), c .accepted .ensures)
 
 pub cg-area-lengths-spec : {M : Type 1} → statement M
 cg-area-lengths-spec =

@@ -21,9 +21,10 @@ known c = opened-known _ _ _ _ (sym (c .before .before .«open» .ensures) ∙ c
 returns : tie.Need-returns
 unfolding inspectOf
 returns c =
-    let a = c .before .before .before .before .before .before .before .before .before .before .args in
+    let o = c .before .before .before .before in
+    let a = o .before .before .before .before .before .before .args in
     begins-refused (lent (a .sheet) (a .heap) (a .records)) (a .rows) (c .refuse2 .result) _ (c .refuse2 .ensures .0) (c .refuse2 .ensures .1)
-    (λ rows l. rw (← c .before .before .before .before .before .before .«open» .ensures, c .before .before .before .before .opened2 .given .1, l, lt-leb _ _ (c .before .if1 .taken)) refl)
+    (λ rows l. rw (← o .before .before .«open» .ensures, o .opened2 .given .1, l, lt-leb _ _ (c .before .if1 .taken)) refl)
 
 note-requires : tie.Need-note-requires
 note-requires c κs = let o = known (c .before .before .before) in record { law = o .law; heapLong = refl; recordsLong = o .recordsLong }
@@ -37,10 +38,11 @@ returns-2 c =
 
 returns-3 : tie.Need-returns-3
 returns-3 c =
-    let a = c .before .before .before .before .before .before .before .before .before .before .args in
+    let o = c .before .before .before .before in
+    let a = o .before .before .before .before .before .before .args in
     let n = c .note .ensures in
-    begins-image (lent (a .sheet) (a .heap) (a .records)) (a .rows) (c .before .before .before .before .opened2 .given .0 .0) (c .note .result)
-    (sym (c .before .before .before .before .before .before .«open» .ensures) ∙ c .before .before .before .before .opened2 .given .1) (omega arith) (n .0) (n .1 .0) (n .1 .1)
+    begins-image (lent (a .sheet) (a .heap) (a .records)) (a .rows) (o .opened2 .given .0 .0) (c .note .result)
+    (sym (o .before .before .«open» .ensures) ∙ o .opened2 .given .1) (omega arith) (n .0) (n .1 .0) (n .1 .1)
 
 pub begin-spec : {M : Type 1} → statement M
 begin-spec =

@@ -12,7 +12,8 @@ use Rattle.image.proofs.inspect.judge_rows.Statement.{statement}
 use Rattle.image.proofs.inspect.judge_rows.Tie as tie
 
 abbrev Inv-loop : tie.InvT-loop
-Inv-loop heap start pairs marks rows₀ n i₀ rows i = (i ≤ start .count) × (length rows ≡ length rows₀) × (rows ≡ sets rows₀ 0 (rowsOf (foundBy heap start pairs marks) i))
+Inv-loop heap start pairs marks rows₀ n i₀ rows i =
+    (i ≤ start .count) × (length rows ≡ length rows₀) × (rows ≡ sets rows₀ 0 (rowsOf (foundBy heap start pairs marks) i))
 
 abbrev μ-loop : tie.MeasureT-loop
 μ-loop heap start pairs marks rows₀ n i₀ rows i = start .count - i
@@ -32,25 +33,19 @@ put-row-requires c κs =
     let e : c .find .result .index ≡ c .before .before .before .loop .i = ap (λ (f : Finding). f .index) (c .find .ensures) in
     subst (λ (k : ℕ). (k < 512) × (k * 3 + 3 ≤ length (c .before .before .before .loop .rows))) (sym e) (omega arith, omega arith)
 
-add-i : tie.Need-add-i Inv-loop μ-loop
-add-i c = search needs
-
-loop-less : tie.Need-loop-less Inv-loop μ-loop
-loop-less c = search needs
-
 loop-again : tie.Need-loop-again Inv-loop μ-loop
 loop-again c =
     let l = c .before .before .before .before .before .before in
-    (search needs, search needs, flat-more 3 _ (λ i. refl) _ _ (l .loop .inv .2) (c .before .before .put-row .ensures ∙ ap (λ (f : Finding). sets (l .loop .rows) (f .index * 3) (numbersOf f)) (c .before .before .before .find .ensures)))
-
-same-length : tie.Need-same-length Inv-loop μ-loop
-same-length c = search needs
+    let put = c .before .before .put-row .ensures
+    ∙ ap (λ (f : Finding). sets (l .loop .rows) (f .index * 3) (numbersOf f)) (c .before .before .before .find .ensures) in
+    (search needs, search needs, flat-more 3 _ (λ i. refl) _ _ (l .loop .inv .2) put)
 
 returns : tie.Need-returns Inv-loop μ-loop
 returns c =
     let a = c .before .before .before .before .args in
     let e : c .before .loop .i ≡ a .start .count = omega arith in
-    subst (λ (k : ℕ). c .before .loop .rows ≡ sets (a .rows .now) 0 (rowsOf (foundBy (a .heap .now) (a .start) (a .pairs .now) (a .marks .now)) k)) e (c .before .loop .inv .2)
+    let f = foundBy (a .heap .now) (a .start) (a .pairs .now) (a .marks .now) in
+    subst (λ (k : ℕ). c .before .loop .rows ≡ sets (a .rows .now) 0 (rowsOf f k)) e (c .before .loop .inv .2)
 
 pub judge-rows-spec : {M : Type 1} → statement M
 judge-rows-spec =
@@ -61,8 +56,8 @@ judge-rows-spec =
     loop-holds
     find-requires
     put-row-requires
-    add-i
-    loop-less
+    (λ c. search needs)
+    (λ c. search needs)
     loop-again
-    same-length
+    (λ c. search needs)
     returns)

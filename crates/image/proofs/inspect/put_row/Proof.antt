@@ -16,7 +16,8 @@ slice-write-rows-3 c = simp length-set (omega arith)
 returns : tie.Need-returns
 returns c =
     let a = c .before .before .before .args in
-    rw (← c .before .number .ensures, ← c .value .ensures) (three-stores (a .rows .now) (a .f .index * 3) (a .f .index) (c .before .number .result) (c .value .result))
+    rw (← c .before .number .ensures, ← c .value .ensures)
+    (three-stores (a .rows .now) (a .f .index * 3) (a .f .index) (c .before .number .result) (c .value .result))
 
 pub put-row-spec : {M : Type 1} → statement M
 put-row-spec =

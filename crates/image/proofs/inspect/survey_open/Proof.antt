@@ -12,20 +12,26 @@ use Rattle.image.proofs.inspect.survey_open.Tie as tie
 
 judge-rows-requires : tie.Need-judge-rows-requires
 judge-rows-requires c κs =
-    let s = c .before .before .before .before .before .before .before .before .before .before in
+    let b = c .before .before .before .before .before .before in
+    let s = b .before .before .before .before in
     let a = s .args in
-    let n = c .before .before .before .before .before .before .note in
+    let n = b .note in
     subst (λ (x : Start). Ready (length (a .heap .now)) x (n .result .pairs) × (x .count * 3 ≤ length (a .rows .now))) (sym (n .ensures .0))
     (ready (length (a .heap .now)) (a .g) (a .records .now) (n .result .pairs) (s .pre .0) (n .ensures .1 .0), s .pre .1)
 
 returns : tie.Need-returns
 returns c =
-    let s = c .before .before .before .before .before .before .before .before .before .before .before .before .before in
+    let j = c .before .before in
+    let b = j .before .before .before .before .before .before .before in
+    let s = b .before .before .before .before in
     let a = s .args in
-    let n = c .before .before .before .before .before .before .before .before .before .note in (
-      c .before .before .judge-rows .ensures
-          ∙ ap (λ (x : Start). sets (a .rows .now) 0 (rowsOf (foundBy (a .heap .now) x (n .result .pairs) (n .result .marks)) (x .count))) (n .ensures .0)
-          ∙ ap (sets (a .rows .now) 0) (table-is (a .g) (a .heap .now) (a .records .now) (n .result .pairs) (n .result .marks) (s .pre .0 .law .sizes .few) (n .ensures .1 .0) (n .ensures .1 .1)),
+    let n = b .note in
+    let pairs = n .result .pairs in
+    let marks = n .result .marks in
+    let few = s .pre .0 .law .sizes .few in (
+      j .judge-rows .ensures
+          ∙ ap (λ (x : Start). sets (a .rows .now) 0 (rowsOf (foundBy (a .heap .now) x pairs marks) (x .count))) (n .ensures .0)
+          ∙ ap (sets (a .rows .now) 0) (table-is (a .g) (a .heap .now) (a .records .now) pairs marks few (n .ensures .1 .0) (n .ensures .1 .1)),
       n .ensures .0,
     )
 

@@ -35,7 +35,10 @@ returns-2 c = rw (← c .before .before .before .«open» .ensures, c .before .o
 
 returns-3 : tie.Need-returns-3
 unfolding tabulateOf
-returns-3 c = rw (← c .before .before .before .before .before .before .before .before .«open» .ensures, c .before .before .before .before .before .before .opened2 .given .1, le-leb _ _ (c .before .before .before .before .if1 .left), c .before .before .survey-open .ensures .0)
+returns-3 c =
+    let f = c .before .before .before .before in
+    let o = f .before .before in
+    rw (← o .before .before .«open» .ensures, o .opened2 .given .1, le-leb _ _ (f .if1 .left), c .before .before .survey-open .ensures .0)
 
 pub tabulate-spec : {M : Type 1} → statement M
 tabulate-spec =

@@ -14,8 +14,8 @@ use Rattle.image.proofs.numbers.survey_numbers.Statement.{statement}
 use Rattle.image.proofs.numbers.survey_numbers.Tie as tie
 
 -- the image is open
-known : (c : tie.After-opened2) →
-    let a = c .before .before .before .before .before .before .before .before .before .args in
+known : (c : tie.After-opened2) → let o = c .before .before .before .before in
+    let a = o .before .before .before .before .before .args in
     Open (length (a .heap .now)) (length (a .records .now)) (c .opened2 .given .0 .0)
 known c = logged-known _ _ _ _ _ (sym (c .before .before .open-with-log .ensures) ∙ c .opened2 .given .1) .0 .opens
 
@@ -28,7 +28,9 @@ returns c = rw (← c .before .before .before .before .open-with-log .ensures, c
 
 returns-2 : tie.Need-returns-2
 unfolding surveyNumbersOf
-returns-2 c = rw (← c .before .before .before .before .before .open-with-log .ensures, c .before .before .before .opened2 .given .1, le-leb _ _ (c .before .if1 .left), lt-leb _ _ (c .if2 .taken))
+returns-2 c =
+    let o = c .before .before .before in
+    rw (← o .before .before .open-with-log .ensures, o .opened2 .given .1, le-leb _ _ (c .before .if1 .left), lt-leb _ _ (c .if2 .taken))
 
 survey-open-requires : tie.Need-survey-open-requires
 survey-open-requires c κs = (known (c .before .before .before .before), omega arith)
@@ -36,13 +38,17 @@ survey-open-requires c κs = (known (c .before .before .before .before), omega a
 put-chain-requires : tie.Need-put-chain-requires
 put-chain-requires c κs =
     let o = c .before .before .before .before .before .before .before .before in
-    let records = o .before .before .before .before .before .before .before .before .before .args .records .now in
+    let opening = o .before .before .before .before in
+    let records = opening .before .before .before .before .before .args .records .now in
     let s = c .before .before .before .survey-open .ensures .1 in
     let k = chain-small (o .opened2 .given .0 .0) records (known o .law) in
     (omega arith, subst (λ (x : Start). (x .met ≤ 512) × EndingIf 512 (x .ending)) (sym s) k)
 
 cast-t28 : tie.Need-cast-t28
-cast-t28 c = let f = known (c .before .before .before .before .before .before .before .before .before .before .before) .law .sizes .few in omega arith
+cast-t28 c =
+    let s = c .before .before .before .before .before .before in
+    let f = known (s .before .before .before .before .before) .law .sizes .few in
+    omega arith
 
 returns-3 : tie.Need-returns-3
 unfolding surveyNumbersOf
@@ -51,11 +57,22 @@ returns-3 c = rw (← c .before .before .before .open-with-log .ensures, c .befo
 returns-4 : tie.Need-returns-4
 unfolding surveyNumbersOf
 returns-4 c =
-    let o = c .before .before .before .before .before .before .before .before .before .before .before in
-    let s = c .before .before .before .before .before .before .survey-open .ensures in
+    let q = c .before .before .before .before .before .before in
+    let f = q .before .before in
+    let o = f .before .before .before in
+    let s = q .survey-open .ensures in
     let m = ap (λ (x : Start). x .met) (s .1) in
     let e = ap (λ (x : Start). x .ending) (s .1) in
-    rw (← o .before .before .open-with-log .ensures, o .opened2 .given .1, le-leb _ _ (c .before .before .before .before .before .before .before .before .before .if1 .left), le-leb _ _ (c .before .before .before .before .before .before .before .before .if2 .left), s .0, c .before .before .put-chain .ensures, m, e)
+    rw (
+      ← o .before .before .open-with-log .ensures,
+      o .opened2 .given .1,
+      le-leb _ _ (f .before .if1 .left),
+      le-leb _ _ (f .if2 .left),
+      s .0,
+      c .before .before .put-chain .ensures,
+      m,
+      e,
+    )
 
 pub survey-numbers-spec : {M : Type 1} → statement M
 survey-numbers-spec =

@@ -11,7 +11,9 @@ returns c = rw (← c .before .before .before .before .«open» .ensures, c .bef
 
 returns-2 : tie.Need-returns-2
 unfolding openedWithLog
-returns-2 c = rw (← c .before .before .before .before .before .«open» .ensures, c .before .before .before .opened2 .given .1, eq-eqb _ _ (c .before .if1 .left), lt-leb _ _ (c .if2 .taken))
+returns-2 c =
+    let o = c .before .before .before in
+    rw (← o .before .before .«open» .ensures, o .opened2 .given .1, eq-eqb _ _ (c .before .if1 .left), lt-leb _ _ (c .if2 .taken))
 
 returns-3 : tie.Need-returns-3
 unfolding openedWithLog
@@ -19,7 +21,9 @@ returns-3 c = rw (← c .before .before .before .«open» .ensures, c .before .o
 
 returns-4 : tie.Need-returns-4
 unfolding openedWithLog
-returns-4 c = rw (← c .before .before .before .before .before .«open» .ensures, c .before .before .before .opened2 .given .1, eq-eqb _ _ (c .before .if1 .left), le-leb _ _ (c .if2 .left))
+returns-4 c =
+    let o = c .before .before .before in
+    rw (← o .before .before .«open» .ensures, o .opened2 .given .1, eq-eqb _ _ (c .before .if1 .left), le-leb _ _ (c .if2 .left))
 
 pub open-with-log-spec : {M : Type 1} → statement M
 open-with-log-spec =

@@ -32,15 +32,23 @@ returns c =
 
 returns-2 : tie.Need-returns-2
 returns-2 c =
-    let w = c .before .before .before .before .write-report in
-    let v = c .before .before .before .before .before .before .before .before in
-    rw (report-image _ _ _ _ (lit≤ tt) _ _ _ (v .before .before .before .survey .ensures) (v .surveyed2 .given .1), ← w .ensures .0, c .enum-told .given .1)
+    let w = c .before .before .before .before in
+    let v = w .before .before .before .before in
+    rw (
+      report-image _ _ _ _ (lit≤ tt) _ _ _ (v .before .before .before .survey .ensures) (v .surveyed2 .given .1),
+      ← w .write-report .ensures .0,
+      c .enum-told .given .1,
+    )
 
 returns-3 : tie.Need-returns-3
 returns-3 c =
-    let w = c .before .before .before .before .before .write-report in
-    let v = c .before .before .before .before .before .before .before .before .before in
-    rw (report-image _ _ _ _ (lit≤ tt) _ _ _ (v .before .before .before .survey .ensures) (v .surveyed2 .given .1), ← w .ensures .0, c .before .written .given .1)
+    let w = c .before .before .before .before .before in
+    let v = w .before .before .before .before in
+    rw (
+      report-image _ _ _ _ (lit≤ tt) _ _ _ (v .before .before .before .survey .ensures) (v .surveyed2 .given .1),
+      ← w .write-report .ensures .0,
+      c .before .written .given .1,
+    )
 
 pub report-spec : {M : Type 1} → statement M
 report-spec =
