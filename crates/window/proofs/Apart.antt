@@ -24,10 +24,10 @@ use sound.WpLaws.{FmC, fmOf, WpFn-mono}
 use denote.RattleType.{RattleType, owns}
 use denote.Laws.{Is, shows}
 use denote.Plain.{uint-vals, uint-tells}
-use denote.Builtin.{u8, u32}
+use denote.Builtin.{u32}
 use denote.Ref.{RefT, now}
 use denote.Signature.{namedLft}
-use denote.Slice.{sliceTy, sliceVal, ShrSlice}
+use denote.Slice.{sliceTy, sliceVal}
 use denote.Steps.{peeks, nothing}
 use denote.Enum.Laws as EL
 use denote.Struct.Declared.{Declared}

@@ -27,7 +27,7 @@ use denote.Plain.{uint-vals, uint-tells}
 use denote.Builtin.{u8, u32}
 use denote.Ref.{RefT, NamedLft, now}
 use denote.Signature.{plain, namedLft}
-use denote.Slice.{sliceTy, sliceVal, ShrSlice, slice-vals, shr-slice-tells, shr-slice-lawful, shr-slice-copy}
+use denote.Slice.{sliceTy, sliceVal, ShrSlice, slice-vals, shr-slice-tells, shr-slice-lawful}
 use denote.Steps.{peeks, nothing}
 use denote.Enum.Laws as EL
 use denote.Struct.Laws as LL
@@ -41,7 +41,7 @@ use denote.Exit.{yes}
 use Rattle.window.specs.declared.Window.{Window}
 use Rattle.window.specs.declared.Word.{Word}
 use Rattle.window.proofs.Apart.{outside}
-use Rattle.window.proofs.Steps.{of-local, leaves, number, asks, answered}
+use Rattle.window.proofs.Steps.{of-local, leaves, number, twice, asks, answered}
 use Rattle.window.proofs.Window as T
 use Rattle.window.proofs.Window.Laws as T′
 use Rattle.window.proofs.Word as S
@@ -133,7 +133,7 @@ module _
   goes-new : ent 𝓤 Entry (sep 𝓤 (New 𝓤 H A mem run .pre to-new) (sem 𝓤 H A Own))
   goes-new =
       qed W (Tokens ∷ ‵ (owns (ShrSlice (named 0) κ u8 ∷ u32 ∷ u32 ∷ []) a at) ∷ []) ∵ move ! (1 ∷ []) $ fsplit ! $ move ! (1 ∷ []) $ drop ! $
-      use1 W (‵ Own ⊛ ‵ Own) (shr-slice-copy 𝓤 H A W (named 0) κ u8 .twice s (v ∷ [])) $ split ! $
+      twice ! (named 0) κ s $
       -- [what bytes owns, twice; the token]: what the numbers own is made anew
       nothing ! $ move ! (1 ∷ 0 ∷ []) $ fjoin ! $ number ! w32 b b-fits $
       move ! (2 ∷ 0 ∷ []) $ use2 W (raw (New 𝓤 H A mem run .pre to-new)) (asks 𝓤 _) $ frame ! $ done !

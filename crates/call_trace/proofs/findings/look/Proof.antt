@@ -34,7 +34,7 @@ use denote.Plain.{uint-vals, uint-tells}
 use denote.Builtin.{u8, usize}
 use denote.Ref.{RefT}
 use denote.Array.{Array, arrayVal, array-typed}
-use denote.Slice.{sliceVal, MutSlice, ShrSlice, Room, finally, slice-vals, shr-slice-copy}
+use denote.Slice.{sliceVal, MutSlice, ShrSlice, Room, finally, slice-vals}
 use denote.Lend.{Held, lends-slice, slice-back}
 use denote.Index.{row, place-is, elem-out, elem-back, whole-out}
 use denote.Steps.{only, owned, peeks, heard, nothing}
@@ -66,7 +66,7 @@ use Rattle.image.proofs.inspect.inspect.Symbol.{name as #image·inspect·inspec
 use Rattle.image.proofs.inspect.inspect.Met as inspect-thm
 use Rattle.call_trace.specs.Findings.{blank, blanks, seenOf}
 use Rattle.call_trace.specs.declared.findings.Seen.{Seen}
-use Rattle.window.proofs.Steps.{of-local, to-local, leaves, number, asks}
+use Rattle.window.proofs.Steps.{of-local, to-local, leaves, number, twice, asks}
 use Rattle.image.proofs.Lent.{laid, stays-bytes, goes-bytes, tells-bytes}
 use Rattle.call_trace.proofs.Arrays.{apart, freed}
 use Rattle.call_trace.proofs.findings.Seen as K
@@ -201,9 +201,7 @@ module _
       (⋆ 𝓤 H A (raw (Inspect 𝓤 H A mem₀ run .pre (to l ν γ)) ∷ ‵ SheetOwn ∷ ‵ HeapOwn ∷ ‵ RecordsOwn ∷ []))
   goes l ν γ =
       qed W (Params ∷ Tokens ∷ ‵ (RowsOwn l ν γ) ∷ ‵ (flft (ν ∷ []) fullShare) ∷ []) ∵
-      fsplit ! $ use1 W (‵ SheetOwn ⊛ ‵ SheetOwn) (shr-slice-copy 𝓤 H A W (named 0) κ₀ u8 .twice sh (sv ∷ [])) $ split ! $
-      move ! (2 ∷ []) $ fsplit ! $ use1 W (‵ HeapOwn ⊛ ‵ HeapOwn) (shr-slice-copy 𝓤 H A W (named 1) κ₁ u8 .twice hp (hv ∷ [])) $ split ! $
-      move ! (2 ∷ []) $ fsplit ! $ use1 W (‵ RecordsOwn ⊛ ‵ RecordsOwn) (shr-slice-copy 𝓤 H A W (named 2) κ₂ u8 .twice rc (rv ∷ [])) $ split ! $
+      fsplit ! $ twice ! (named 0) κ₀ sh $ move ! (2 ∷ []) $ fsplit ! $ twice ! (named 1) κ₁ hp $ move ! (2 ∷ []) $ fsplit ! $ twice ! (named 2) κ₂ rc $
       move ! (2 ∷ []) $ drop ! $
       -- [what each area owns, twice; the tokens; the array's borrow; its token]
       nothing ! $ move ! (8 ∷ 0 ∷ []) $ fjoin ! $ move ! (1 ∷ 0 ∷ []) $ fjoin ! $ move ! (2 ∷ 0 ∷ []) $ fjoin ! $ move ! (3 ∷ 0 ∷ []) $ fjoin ! $

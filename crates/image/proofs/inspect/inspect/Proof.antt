@@ -22,7 +22,7 @@ use base.Fml.{Lft, GName, Share, Fml, ftrue, fat, froom, fdies, flft, fdead, fob
 use prog.Memory.{Memory}
 use prog.Routine.{Routine}
 use prog.Wp.{Heap, Out, Env, afterSeq, afterBlock, afterTurn, Wp, atReturn, WpFn, Tables}
-use ghost.Atoms.{Atoms, sem}
+use ghost.Atoms.{Atoms}
 use contract.Lifetimes.{Lfts, Shares}
 use contract.Monad.{Fun}
 use contract.Running.{givenOf, tables, tablesOf}
@@ -38,10 +38,10 @@ use denote.Shadow.{pureI}
 use denote.Laws.{Is, shows}
 use denote.Memory.{pointee, partAt}
 use denote.Plain.{uint-makes, uint-lawful, uint-vals, uint-tells}
-use denote.Builtin.{u8, u16, usize}
-use denote.Array.{Array, array-vals, array-typed, array-makes}
+use denote.Builtin.{u8, u16}
+use denote.Array.{Array, array-vals, array-typed}
 use denote.Ref.{RefT, ShrRef, shr-copy}
-use denote.Slice.{sliceTy, sliceVal, MutSlice, ShrSlice, Room, heres, codedHoleys, at-slice, slice-vals, mut-slice-tells, shr-slice-copy}
+use denote.Slice.{sliceTy, sliceVal, MutSlice, ShrSlice, Room, heres, codedHoleys, at-slice, slice-vals, mut-slice-tells}
 use denote.Lend.{Held}
 use denote.Index.{row, place-is, elem-out, elem-put, opens-slice, closes-slice}
 use denote.Signature.{plain}
@@ -60,7 +60,7 @@ use Rattle.image.specs.Inspect.{filled, foundBy, Begins}
 use Rattle.image.specs.declared.inspect.Finding.{Finding}
 use Rattle.image.specs.declared.inspect.Begun.{Begun}
 use Rattle.image.proofs.Findings.{filled-length}
-use Rattle.area.proofs.Steps.{of-local, of-field, to-local, leaves, number, asks, answered}
+use Rattle.area.proofs.Steps.{of-local, of-field, to-local, leaves, number, twice, asks, answered}
 use Rattle.image.proofs.Lent.{says-both, laid, lent, freed, stays-bytes, goes-bytes, tells-bytes}
 use Rattle.image.proofs.inspect.Finding as T
 use Rattle.image.proofs.inspect.Finding.Laws as T′
@@ -91,14 +91,8 @@ stayed = (stays-bytes 0 tt, (stays-bytes 1 tt, (stays-bytes 2 tt, (stay-slice (3
 abbrev word : Ty
 word = tyInt w64
 
-abbrev sheet-ty : Ty
-sheet-ty = sliceTy (tyRef (named 0) imm (tyInt w8))
-
-abbrev heap-ty : Ty
-heap-ty = sliceTy (tyRef (named 1) imm (tyInt w8))
-
-abbrev records-ty : Ty
-records-ty = sliceTy (tyRef (named 2) imm (tyInt w8))
+abbrev area-ty : ℕ → Ty
+area-ty j = sliceTy (tyRef (named j) imm (tyInt w8))
 
 abbrev rows-ty : Ty
 rows-ty = sliceTy (tyRef (named 3) mut (pointee (T.the-row .written)))
@@ -121,7 +115,7 @@ function = record {
   outlives = [];
   params = 4;
   locals =
-      local I′.mir valueLocal ∷ local sheet-ty valueLocal ∷ local heap-ty valueLocal ∷ local records-ty valueLocal ∷ local rows-ty valueLocal ∷
+      local I′.mir valueLocal ∷ local (area-ty 0) valueLocal ∷ local (area-ty 1) valueLocal ∷ local (area-ty 2) valueLocal ∷ local rows-ty valueLocal ∷
       local B′.mir valueLocal ∷ local S′.mir valueLocal ∷ local pairs-ty memorySlot ∷ local marks-ty memorySlot ∷ local word valueLocal ∷
       local word valueLocal ∷ local word valueLocal ∷ local tyBool valueLocal ∷ local T′.mir valueLocal ∷ local pairs-ref valueLocal ∷
       local marks-ref valueLocal ∷ local word valueLocal ∷ local tyPtr valueLocal ∷ [];
@@ -249,9 +243,7 @@ module _
       (⋆ 𝓤 H A (raw (Begin 𝓤 H A mem run .pre to-begin) ∷ ‵ SheetOwn ∷ ‵ HeapOwn ∷ ‵ RecordsOwn ∷ []))
   asks-begin fits =
       qed W (‵ SheetOwn ∷ ‵ HeapOwn ∷ ‵ RecordsOwn ∷ ‵ (flft κ₀ q₀) ∷ ‵ (flft κ₁ q₁) ∷ ‵ (flft κ₂ q₂) ∷ []) ∵
-      use1 W (‵ SheetOwn ⊛ ‵ SheetOwn) (shr-slice-copy 𝓤 H A W (named 0) κ₀ u8 .twice sh (sv ∷ [])) $ split ! $
-      move ! (2 ∷ []) $ use1 W (‵ HeapOwn ⊛ ‵ HeapOwn) (shr-slice-copy 𝓤 H A W (named 1) κ₁ u8 .twice hp (hv ∷ [])) $ split ! $
-      move ! (4 ∷ []) $ use1 W (‵ RecordsOwn ⊛ ‵ RecordsOwn) (shr-slice-copy 𝓤 H A W (named 2) κ₂ u8 .twice rc (rv ∷ [])) $ split ! $
+      twice ! (named 0) κ₀ sh $ move ! (2 ∷ []) $ twice ! (named 1) κ₁ hp $ move ! (4 ∷ []) $ twice ! (named 2) κ₂ rc $
       nothing ! $ number ! w64 (length ys) fits $ move ! (1 ∷ 0 ∷ []) $ fjoin ! $ move ! (2 ∷ 0 ∷ []) $ fjoin ! $ move ! (3 ∷ 0 ∷ []) $ fjoin ! $
       nothing ! $ move ! (7 ∷ 0 ∷ []) $ join ! $ move ! (6 ∷ 0 ∷ []) $ join ! $ move ! (5 ∷ 0 ∷ []) $ join ! $
       use2 W (raw (Begin 𝓤 H A mem run .pre to-begin)) (asks 𝓤 _) $ move ! (0 ∷ 3 ∷ 2 ∷ 1 ∷ []) $ done !
@@ -333,7 +325,7 @@ module _
           (⋆ 𝓤 H A (raw (Find 𝓤 H A mem run .pre (to i)) ∷ ‵ HeapOwn ∷ ‵ PairsOwn ∷ ‵ MarksOwn ∷ []))
       asks-find i i-fits below =
           qed W (‵ HeapOwn ∷ ‵ PairsOwn ∷ ‵ MarksOwn ∷ ‵ (flft κ₁ q₁) ∷ ‵ (flft (ν ∷ []) fullShare) ∷ []) ∵
-          use1 W (‵ HeapOwn ⊛ ‵ HeapOwn) (shr-slice-copy 𝓤 H A W (named 1) κ₁ u8 .twice hp (hv ∷ [])) $ split ! $ move ! (2 ∷ []) $
+          twice ! (named 1) κ₁ hp $ move ! (2 ∷ []) $
           use1 W (‵ PairsOwn ⊛ ‵ PairsOwn) (shr-copy 𝓤 H A W (named 1) (ν ∷ []) Pairs .twice pairs-at (vptr l₇ 0 ∷ [])) $ split ! $ move ! (4 ∷ []) $
           use1 W (‵ MarksOwn ⊛ ‵ MarksOwn) (shr-copy 𝓤 H A W (named 1) (ν ∷ []) Marks .twice marks-at (vptr l₈ 0 ∷ [])) $ split ! $
           nothing ! $ number ! w64 i i-fits $ move ! (1 ∷ 0 ∷ []) $ fjoin ! $ move ! (2 ∷ 0 ∷ []) $ fjoin ! $
@@ -348,21 +340,22 @@ module _
       -- ---- the loop
       abbrev En : Env 𝓤 H
       En =
-          (I′.mir, l₀) ∷ (sheet-ty, l₁) ∷ (heap-ty, l₂) ∷ (records-ty, l₃) ∷ (rows-ty, l₄) ∷ (B′.mir, l₅) ∷ (S′.mir, l₆) ∷ (pairs-ty, l₇) ∷ (marks-ty, l₈) ∷
-          (word, l₉) ∷ (word, l₁₀) ∷ (word, l₁₁) ∷ (tyBool, l₁₂) ∷ (T′.mir, l₁₃) ∷ (pairs-ref, l₁₄) ∷ (marks-ref, l₁₅) ∷ (word, l₁₆) ∷ (tyPtr, l₁₇) ∷ []
+          (I′.mir, l₀) ∷ ((area-ty 0), l₁) ∷ ((area-ty 1), l₂) ∷ ((area-ty 2), l₃) ∷ (rows-ty, l₄) ∷ (B′.mir, l₅) ∷ (S′.mir, l₆) ∷ (pairs-ty, l₇) ∷
+          (marks-ty, l₈) ∷ (word, l₉) ∷ (word, l₁₀) ∷ (word, l₁₁) ∷ (tyBool, l₁₂) ∷ (T′.mir, l₁₃) ∷ (pairs-ref, l₁₄) ∷ (marks-ref, l₁₅) ∷
+          (word, l₁₆) ∷ (tyPtr, l₁₇) ∷ []
 
       -- the context at the head of a turn
       abbrev At : ℕ → List (Item 𝓤)
       At i =
           ‵ (row T.the-row fullShare (filled found ys i) b o) ∷ ‵ (flft κ₁ q₁) ∷ ‵ HeapOwn ∷ ‵ (flft (ν ∷ []) fullShare) ∷ ‵ PairsOwn ∷ ‵ MarksOwn ∷
           ‵ (fat fullShare word l₁₀ 0 (vint w64 i)) ∷ ‵ (froom tyBool l₁₂ 0) ∷ ‵ (froom T′.mir l₁₃ 0) ∷ ‵ (froom pairs-ref l₁₄ 0) ∷ ‵ (froom marks-ref l₁₅ 0) ∷
-          ‵ (froom word l₁₆ 0) ∷ ‵ (froom tyPtr l₁₇ 0) ∷ ‵ (fat fullShare rows-ty l₄ 0 s) ∷ ‵ (fat fullShare heap-ty l₂ 0 hv) ∷
+          ‵ (froom word l₁₆ 0) ∷ ‵ (froom tyPtr l₁₇ 0) ∷ ‵ (fat fullShare rows-ty l₄ 0 s) ∷ ‵ (fat fullShare (area-ty 1) l₂ 0 hv) ∷
           ‵ (fat fullShare S′.mir l₆ 0 stv) ∷ ‵ (fat fullShare word l₉ 0 (vint w64 n)) ∷ ‵ (froom I′.mir l₀ 0) ∷
           ‵ (fobor κ₃ q₃ (Held T.the-row (length ys) b o γ)) ∷ ‵ (Obs ys) ∷ ‵ (fauth γ (codedHoleys T.the-row .code (heres T.the-row ys))) ∷
           ‵ (flent (ν ∷ []) (partAt Pairs fullShare (r .pairs) l₇ 0)) ∷ ‵ (flent (ν ∷ []) (partAt Marks fullShare (r .marks) l₈ 0)) ∷ ‵ (flft κ₀ q₀) ∷
-          ‵ (flft κ₂ q₂) ∷ ‵ SheetOwn ∷ ‵ RecordsOwn ∷ ‵ (fat fullShare sheet-ty l₁ 0 sv) ∷ ‵ (fat fullShare records-ty l₃ 0 rv) ∷
-          ‵ (fat fullShare B′.mir l₅ 0 bv) ∷ ‵ (fat fullShare word l₁₁ 0 (vint w64 (length ys))) ∷ ‵ (fdies I′.mir l₀) ∷ ‵ (fdies sheet-ty l₁) ∷
-          ‵ (fdies heap-ty l₂) ∷ ‵ (fdies records-ty l₃) ∷ ‵ (fdies rows-ty l₄) ∷ ‵ (fdies B′.mir l₅) ∷ ‵ (fdies S′.mir l₆) ∷ ‵ (fdies pairs-ty l₇) ∷
+          ‵ (flft κ₂ q₂) ∷ ‵ SheetOwn ∷ ‵ RecordsOwn ∷ ‵ (fat fullShare (area-ty 0) l₁ 0 sv) ∷ ‵ (fat fullShare (area-ty 2) l₃ 0 rv) ∷
+          ‵ (fat fullShare B′.mir l₅ 0 bv) ∷ ‵ (fat fullShare word l₁₁ 0 (vint w64 (length ys))) ∷ ‵ (fdies I′.mir l₀) ∷ ‵ (fdies (area-ty 0) l₁) ∷
+          ‵ (fdies (area-ty 1) l₂) ∷ ‵ (fdies (area-ty 2) l₃) ∷ ‵ (fdies rows-ty l₄) ∷ ‵ (fdies B′.mir l₅) ∷ ‵ (fdies S′.mir l₆) ∷ ‵ (fdies pairs-ty l₇) ∷
           ‵ (fdies marks-ty l₈) ∷ ‵ (fdies word l₉) ∷ ‵ (fdies word l₁₀) ∷ ‵ (fdies word l₁₁) ∷ ‵ (fdies tyBool l₁₂) ∷ ‵ (fdies T′.mir l₁₃) ∷
           ‵ (fdies pairs-ref l₁₄) ∷ ‵ (fdies marks-ref l₁₅) ∷ ‵ (fdies word l₁₆) ∷ ‵ (fdies tyPtr l₁₇) ∷ []
 

@@ -1,6 +1,6 @@
 -- The chunk and the record's address are those of the places; the rules from 21 on do the rest. Assumes nothing.
 use mathlib.Core.Path.{subst}
-use Prim.Native.Nat.{_-_, ℕ, _+_, _*_, _≤_, _<_}
+use Prim.Native.Nat.{ℕ, _+_, _*_, _≤_, _<_}
 use native.Mathlib.Omega.{arith}
 use borrow.Author.Needs.{needs}
 use Rattle.verdicts.specs.Pairing.{OwnIf}

@@ -1,5 +1,4 @@
 -- Past the end there is no mark, which is as good as a mark of 0. Assumes nothing.
-use native.Mathlib.Omega.{arith}
 use borrow.Author.Needs.{needs}
 use lib.ListN.{List·getD-eq-default}
 use Rattle.verdicts.proofs.pairing.own_record.Statement.{statement}
