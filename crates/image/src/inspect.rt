@@ -193,7 +193,8 @@ fn judge_rows<'a>(
     requires { ⌜ start .count * 3 ≤ length (now rows) ⌝ }
     ensures { λ _. ⌜ now (rows .exit)
         ≡ sets (now (rows .entry)) 0
-        (rowsOf (foundBy (now (heap .entry)) start (now (pairs .entry)) (now (marks .entry))) (start .count)) ⌝ }
+        (rowsOf (foundBy (now (heap .entry)) start (now (pairs .entry)) (now (marks .entry)))
+        (start .count)) ⌝ }
 {
     let n = start.count;
     let mut i = 0;

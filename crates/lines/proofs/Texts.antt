@@ -98,8 +98,9 @@ module _ (t o m : List ℕ) (need : ℕ) (w : Wrote [] 0 t m need) where
       simp (le-leb (length t) (length o) l) (rw (v .ends ∙ zero-add (length t), e))
 
 -- a text that was written fits the output
-pub written-fits : (t o : List ℕ) (k : ℕ) → writing t o .answer ≡ Length k → k ≤ length o
-written-fits t o k =
-    by-test (λ (x : Filling Written ℕ). x .answer ≡ Length k → k ≤ length o) (leb (length t) (length o))
-    (λ q e. let z : length t ≡ k = cc in subst (λ (n : ℕ). n ≤ length o) z (leb-true _ _ q))
-    (λ q e. absurd (let z : _≡_ {A = ℕ} 0 1 = cc in omega arith))
+pub written-fits : (t o : List ℕ) (s : Written) (x : List ℕ) (k : ℕ) → filling s x ≡ writing t o → s ≡ Length k → k ≤ length o
+written-fits t o s x k e f =
+    by-test (λ (y : Filling Written ℕ). filling s x ≡ y → k ≤ length o) (leb (length t) (length o))
+    (λ q g. let h = ap (λ (y : Filling Written ℕ). y .answer) g in let z : length t ≡ k = cc in subst (λ (n : ℕ). n ≤ length o) z (leb-true _ _ q))
+    (λ q g. let h = ap (λ (y : Filling Written ℕ). y .answer) g in absurd (let z : _≡_ {A = ℕ} 0 1 = cc in omega arith))
+    e

@@ -179,7 +179,8 @@ pub fn write_report(
 ) -> Written
     requires { ⌜ n ≤ 512 ⌝ }
     requires { ⌜ 3 * n ≤ length (now rows) ⌝ }
-    ensures { λ r. ⌜ filling r (now (output .exit)) ≡ writing (rowsText (now (rows .entry)) n met ending) (now (output .entry)) ⌝ }
+    ensures { λ r. ⌜ filling r (now (output .exit))
+        ≡ writing (rowsText (now (rows .entry)) n met ending) (now (output .entry)) ⌝ }
     ensures { λ r. ⌜ WrittenIf r ⌝ }
 {
     let need = put_report(&mut output[..0], rows, n, met, ending);
@@ -199,7 +200,8 @@ fn put_refusal(output: &mut [u8], number: u32) -> usize
 
 // Writes `refused N` and a line feed to the output's start and answers its length; or nothing, where the output is too short.
 pub fn write_refusal(why: Refusal, output: &mut [u8]) -> Written
-    ensures { λ r. ⌜ filling r (now (output .exit)) ≡ writing (refusalLineOf (refusalNumber why)) (now (output .entry)) ⌝ }
+    ensures { λ r. ⌜ filling r (now (output .exit))
+        ≡ writing (refusalLineOf (refusalNumber why)) (now (output .entry)) ⌝ }
 {
     let number = refusal::number(why);
     let need = put_refusal(&mut output[..0], number);

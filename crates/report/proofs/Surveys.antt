@@ -122,8 +122,8 @@ report-fits a l output k =
     (λ why q. absurd (let z : _≡_ {A = ℕ} 0 1 = cc in omega arith))
   where
     go : (text : List ℕ) → reporting text output .answer ≡ Value k → k ≤ length output
-    go text q = written (writing text output .answer) refl q
+    go text q = written (writing text output .answer) (writing text output .rows) refl q
       where
-        written : (w : Written) → writing text output .answer ≡ w → reportedBy w ≡ Value k → k ≤ length output
-        written (text-written.Length n) e f = let z : n ≡ k = cc in written-fits text output k (e ∙ ap text-written.Length z)
-        written text-written.Short e f = absurd (let z : _≡_ {A = ℕ} 0 1 = cc in omega arith)
+        written : (w : Written) (x : List ℕ) → filling w x ≡ writing text output → reportedBy w ≡ Value k → k ≤ length output
+        written (text-written.Length n) x e f = let z : n ≡ k = cc in written-fits text output (text-written.Length n) x k e (ap text-written.Length z)
+        written text-written.Short x e f = absurd (let z : _≡_ {A = ℕ} 0 1 = cc in omega arith)

@@ -1,10 +1,9 @@
 -- A line that was written fits the space it was written to. Assumes nothing.
-use mathlib.Core.Path.{sym, ap, _∙_}
-use Prim.Native.Nat.{ℕ}
 use native.Mathlib.Omega.{arith}
 use borrow.Author.Needs.{needs}
-use Rattle.area.specs.Filling.{Filling}
-use Rattle.lines.specs.declared.text.Written.{Written}
+use lib.ListN.{replicate}
+use Rattle.area.specs.Refusal.{refusalNumber}
+use Rattle.lines.specs.Text.{refusalLineOf}
 use Rattle.lines.proofs.Texts.{written-fits}
 use Rattle.heap_report.proofs.tell_refusal.Statement.{statement}
 use Rattle.heap_report.proofs.tell_refusal.Tie as tie
@@ -12,7 +11,8 @@ use Rattle.heap_report.proofs.tell_refusal.Tie as tie
 write-out-requires : tie.Need-write-out-requires
 write-out-requires c κs =
     let w = c .before .before .before .before .before .write-refusal in
-    let k = written-fits _ _ _ (ap (λ (x : Filling Written ℕ). x .answer) (sym (w .ensures)) ∙ c .before .before .written .given .1) in
+    let line = refusalLineOf (refusalNumber (c .before .before .before .before .before .before .before .args .why)) in
+    let k = written-fits line (replicate 16 0) _ _ _ (w .ensures) (c .before .before .written .given .1) in
     omega (arith, k, w .kept .1 .0)
 
 pub tell-refusal-spec : {M : Type 1} → statement M
