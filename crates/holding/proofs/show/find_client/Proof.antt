@@ -12,10 +12,6 @@ mul-t11 c =
     let o = c .before .before .before .before in
     omega (arith, client-inside _ _ _ _ (held-known _ _ _ (sym (o .before .before .hold .ensures) ∙ o .h2 .given .1) .holds) .small)
 
-returns : tie.Need-returns
-unfolding shownOf
-returns c = rw (← c .before .before .before .hold .ensures, c .before .h .given .1)
-
 returns-2 : tie.Need-returns-2
 unfolding shownOf
 returns-2 c =
@@ -23,13 +19,10 @@ returns-2 c =
     rw (← o .before .before .hold .ensures, o .h2 .given .1, ← c .client-size .ensures)
 
 pub find-client-spec : {M : Type 1} → statement M
+unfolding shownOf
 find-client-spec =
     tie.close
     (tie.spec
-    (λ c κs. search needs)
-    (λ c. search needs)
-    (λ c. search needs)
-    mul-t11
-    (λ c κs. search needs)
-    returns
+    (λ c κs. search needs) (λ c. search needs) (λ c. search needs) mul-t11 (λ c κs. search needs)
+    (λ c. rw (← c .before .before .before .hold .ensures, c .before .h .given .1))
     returns-2)
