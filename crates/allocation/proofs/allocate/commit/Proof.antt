@@ -1,14 +1,15 @@
 -- The chunk comes back in its place, and each area is written once. Assumes nothing.
 use mathlib.Core.Path.{_≡_, sym, subst}
 use mathlib.Core.Bool.{true}
-use Prim.Native.Nat.{ℕ, _+_, _*_, _≤_}
+use Prim.Native.Nat.{ℕ}
 use native.Mathlib.Omega.{arith}
 use borrow.Author.Needs.{needs}
 use lib.ListN.{length}
 use Rattle.allocation.specs.Allocate.{grantedAreas}
-use Rattle.opening.proofs.Sheets.{chunk-inside, chunk-small, lent-size, lent-lawful, chunk-back}
+use Rattle.opening.proofs.Sheets.{lent-size, lent-lawful, chunk-back}
 use Rattle.chunks.proofs.Chunks.{length-grantedChunk}
 use Rattle.chunks.specs.Chunk.{lawfulSize, grantedChunk}
+use Rattle.allocation.proofs.Takings.{ChunkLies, chunk-lies}
 use Rattle.allocation.proofs.allocate.commit.Statement.{statement}
 use Rattle.allocation.proofs.allocate.commit.Tie as tie
 
@@ -17,12 +18,8 @@ abbrev start : tie.After-g → tie.Start
 start c = c .before .before .before .before
 
 -- the chunk lies in the heap, and its end is a small number
-lies : (c : tie.After-g) → let a = start c .args in let end = a .p .buffer * a .p .sheet .chunk + a .p .sheet .chunk in
-    (end ≤ length (a .heap .now)) × (end ≤ 65536)
-lies c =
-    let k = start c .pre .ready in
-    let i = chunk-inside _ (k .opened .law) _ (k .buffer) in
-    (omega (arith, k .opened .heapLong), chunk-small _ (k .opened .law) _ (k .buffer))
+lies : (c : tie.After-g) → let a = start c .args in ChunkLies (length (a .heap .now)) (a .p .sheet) (a .p .buffer)
+lies c = let k = start c .pre .ready in chunk-lies _ _ _ (k .opened) _ (k .buffer)
 
 write-granted-requires : tie.Need-write-granted-requires
 write-granted-requires c κs =

@@ -1,13 +1,14 @@
 -- The head is a record's address, that record's word a buffer's, and the chunk is the one at that place. Assumes nothing.
 use mathlib.Core.Path.{sym, _∙_}
-use Prim.Native.Nat.{_+_, _-_, _*_, _≤_, _<_}
+use Prim.Native.Nat.{_-_, _<_}
 use native.Mathlib.Omega.{arith}
 use borrow.Author.Needs.{needs}
 use lib.ListN.{length}
 use Rattle.allocation.specs.Allocate.{takenHead}
 use Rattle.area.proofs.Places.{place-found}
-use Rattle.opening.proofs.Sheets.{chunk-inside, chunk-small, record-inside, record-word, lent-long}
+use Rattle.opening.proofs.Sheets.{record-inside, record-word, lent-long}
 use Rattle.words.proofs.Parts.{part-lent}
+use Rattle.allocation.proofs.Takings.{ChunkLies, chunk-lies}
 use Rattle.allocation.proofs.allocate.take_head.Statement.{statement}
 use Rattle.allocation.proofs.allocate.take_head.Tie as tie
 
@@ -36,11 +37,8 @@ module _ (c : tie.After-buffer) where
   found = place-found _ _ _ _ _ (sym (c .before .before .find2 .ensures) ∙ c .buffer .given .1) .0
 
   -- its chunk lies in the heap, and the chunk's end is a small number
-  lies : let a = first .args in let end = c .buffer .given .0 .0 * a .g .chunk + a .g .chunk in (end ≤ length (a .heap .now)) × (end ≤ 65536)
-  lies =
-      let o = first .pre in
-      let i = chunk-inside (first .args .g) (o .law) _ found in
-      (omega (arith, o .heapLong), chunk-small (first .args .g) (o .law) _ found)
+  lies : ChunkLies (length (first .args .heap .now)) (first .args .g) (c .buffer .given .0 .0)
+  lies = chunk-lies _ _ (first .args .g) (first .pre) _ found
 
 take-chunk-requires : tie.Need-take-chunk-requires
 take-chunk-requires c κs =

@@ -10,7 +10,8 @@ use Rattle.transactions.proofs.latest.latest.Statement.{statement}
 use Rattle.transactions.proofs.latest.latest.Tie as tie
 
 -- the part lies in its area
-row-inside : (c : tie.After-found) → let s = c .before .before .before .before .before .before .before in c .found .given .0 .0 * 16 + 16 ≤ length (s .args .log .now)
+row-inside : (c : tie.After-found) → let s = c .before .before .before .before .before .before .before in
+    c .found .given .0 .0 * 16 + 16 ≤ length (s .args .log .now)
 row-inside c = row-known _ _ _ _ _ (sym (c .before .before .find-latest .ensures) ∙ c .found .given .1) .0
 
 record-inside : (c : tie.After-found2) → let s = c .before .before .before .before .before .before .before in
