@@ -1,7 +1,8 @@
 -- What is known of the buffer that an allocation takes, by the equation of its plan alone. Assumes nothing.
 use mathlib.Core.Path.{_≡_, subst}
 use mathlib.Core.List.{List}
-use Prim.Native.Nat.{ℕ, _<_}
+use Prim.Native.Nat.{ℕ, _+_, _*_, _≤_, _<_}
+use native.Mathlib.Omega.{arith}
 use lib.Dec.{eqb}
 use lib.ListN.{length}
 use Rattle.words.proofs.Tests.{by-test}
@@ -17,12 +18,21 @@ use Rattle.area.specs.Record.{recordSize, addressWord}
 use Rattle.area.proofs.Places.{place-found}
 use Rattle.area.proofs.Placed.{by-place}
 use Rattle.opening.specs.Areas.{Areas, byLengths, chunkAt}
-use Rattle.opening.specs.Sheet.{openedOf}
+use Rattle.opening.specs.Sheet.{Open, openedOf}
+use Rattle.opening.specs.declared.sheet.Sheet.{Sheet}
 use Rattle.opening.proofs.Opens.{opened-known, by-opened}
+use Rattle.opening.proofs.Sheets.{chunk-inside, chunk-small}
 use Rattle.allocation.specs.Allocate.{takenBy, takenChunk, takenHead, takenOf, allocatePlan, Takes}
 use Rattle.allocation.specs.declared.allocate.Spot.{Spot}
 use Rattle.allocation.specs.declared.allocate.AllocatePlan.{AllocatePlan}
 use Rattle.allocation.specs.declared.allocate.AllocatePlan.the-variants.{Take, Refused}
+
+-- chunk i lies in a heap of h bytes, and its end is a small number
+abbrev pub ChunkLies : ℕ → Sheet → ℕ → Type 0
+ChunkLies h g i = (i * g .chunk + g .chunk ≤ h) × (i * g .chunk + g .chunk ≤ 65536)
+
+pub chunk-lies : (h r : ℕ) (g : Sheet) → Open h r g → (i : ℕ) → i < g .count → ChunkLies h g i
+chunk-lies h r g o i b = let k = chunk-inside g (o .law) i b in (omega (arith, o .heapLong), chunk-small g (o .law) i b)
 
 -- what is claimed of a plan: of a buffer that it takes, that it can be taken
 abbrev TakenIf : Areas → Grant → AllocatePlan → Type 0

@@ -2,9 +2,9 @@
 use mathlib.Core.Path.{_≡_, refl, sym, _∙_, subst}
 use mathlib.Core.Bool.{true}
 use mathlib.Core.List.{List}
-use Prim.Native.Nat.{ℕ, _+_, _*_, _≤_}
+use Prim.Native.Nat.{ℕ, _+_, _*_, _≤_, _<_}
 use native.Mathlib.Omega.{arith}
-use borrow.Author.Tests.{leb-true}
+use borrow.Author.Tests.{leb-true, le-leb, lt-leb}
 use lib.Dec.{eqb, leb}
 use lib.ListN.{length}
 use Rattle.words.proofs.Tests.{by-test}
@@ -13,21 +13,23 @@ use Rattle.tags.specs.Tag.{patternOf}
 use Rattle.tags.specs.declared.tag.Pattern.{Pattern}
 use Rattle.tags.specs.declared.tag.Pattern.the-variants as pattern
 use Rattle.tags.specs.declared.verdict.Verdict.{Verdict}
-use Rattle.tags.specs.declared.verdict.Verdict.the-variants.{Free, Whole, Allocated, NotOneRecord, BadTag, FreedTwice, OffChain, OnChain, BadFill, BadRedzone, BadSizeCode, Overrun}
+use Rattle.tags.specs.declared.verdict.Verdict.the-variants.{Free, Whole, Allocated, NotOneRecord, BadTag, FreedTwice}
+use Rattle.tags.specs.declared.verdict.Verdict.the-variants.{OffChain, OnChain, BadFill, BadRedzone, BadSizeCode, Overrun}
 use Rattle.chunks.specs.Chunk.{bufferSize, tagAt, lawfulSize, grantSize}
 use Rattle.chunks.specs.Judge.{allocatedVerdict}
 use Rattle.chunks.specs.declared.chunk.Grant.{Grant}
 use Rattle.chunks.specs.declared.chunk.Grant.the-variants as grant
 use Rattle.chunks.proofs.Chunks.{allocated-within, grant-within, within-lawful}
 use Rattle.area.specs.Place.{placeOf}
+use Rattle.area.specs.declared.refusal.Refusal.the-variants.{PastClient}
 use Rattle.area.specs.Record.{recordSize, addressWord}
 use Rattle.area.proofs.Places.{place-found}
 use Rattle.area.proofs.Placed.{by-place}
-use Rattle.opening.specs.Areas.{Areas, byLengths, bufferAddress, chunkAt}
+use Rattle.opening.specs.Areas.{Areas, Ready, byLengths, bufferAddress, chunkAt}
 use Rattle.opening.specs.Sheet.{sheetOf, openedOf}
 use Rattle.opening.specs.declared.sheet.Sheet.{Sheet}
 use Rattle.opening.proofs.Opens.{opened-known, by-opened}
-use Rattle.opening.proofs.Sheets.{chunk-inside, chunk-small}
+use Rattle.opening.proofs.Sheets.{chunk-inside, chunk-small, record-inside, record-small, record-word}
 use Rattle.holding.specs.Holding.{heldAs, heldBy, heldChunk, heldAt, heldOf, Holds, clientAt}
 use Rattle.holding.specs.Free.{sameGrant, freedBy, freePlan}
 use Rattle.holding.specs.Store.{storedBy, storePlan}
@@ -114,10 +116,22 @@ unfolding freePlan
 freed-held a address q p e = go (heldOf a address) refl e
   where
     go : (h : Held) → heldOf a address ≡ h → freedBy h q ≡ Buffer p → heldOf a address ≡ Buffer p
-    go (Buffer h) k f = by-test (λ x. x ≡ Buffer p → heldOf a address ≡ Buffer p) (sameGrant (h .grant) q) (λ t z. k ∙ z) (λ t z. absurd (let n : _≡_ {A = ℕ} 0 1 = cc in omega arith)) f
+    go (Buffer h) k f =
+        by-test (λ x. x ≡ Buffer p → heldOf a address ≡ Buffer p) (sameGrant (h .grant) q) (λ t z. k ∙ z)
+        (λ t z. absurd (let n : _≡_ {A = ℕ} 0 1 = cc in omega arith)) f
     go (Refused why) k f = absurd (let z : _≡_ {A = ℕ} 0 1 = cc in omega arith)
 
--- and so is one that is stored into, where the bytes lie in the client's
+-- a store into a buffer that is held: whether the bytes end in the client's decides
+module _ (a : Areas) (address offset len : ℕ) (p : Holding) (e : heldOf a address ≡ Buffer p) where
+  pub store-past : grantSize (p .sheet .size) (p .grant) < offset + len → Refused PastClient ≡ storePlan a address offset len
+  unfolding storePlan
+  store-past l = rw (e, lt-leb (offset + len) _ l)
+
+  pub store-within : offset + len ≤ grantSize (p .sheet .size) (p .grant) → Buffer p ≡ storePlan a address offset len
+  unfolding storePlan
+  store-within l = rw (e, le-leb (offset + len) _ l)
+
+-- a buffer that is stored into is one that is held, where the bytes lie in the client's
 pub stored-held : (a : Areas) (address offset len : ℕ) (p : Holding) → storePlan a address offset len ≡ Buffer p
     → (heldOf a address ≡ Buffer p) × (offset + len ≤ grantSize (p .sheet .size) (p .grant))
 unfolding storePlan
@@ -133,7 +147,28 @@ stored-held a address offset len p e = go (heldOf a address) refl e
         (λ t z. absurd (let n : _≡_ {A = ℕ} 0 1 = cc in omega arith)) f
     go (Refused why) k f = absurd (let z : _≡_ {A = ℕ} 0 1 = cc in omega arith)
 
--- ---- where the client's bytes lie
+-- ---- where the bytes of a buffer lie
+
+-- chunk i lies in the heap and record j in the records, and the numbers are small
+pub record Lies (h r : ℕ) (g : Sheet) (i j : ℕ) : Type 0 where
+  pub chunk : i * g .chunk + g .chunk ≤ h
+  pub small : i * g .chunk + g .chunk ≤ 65536
+  pub slot : j * recordSize + recordSize ≤ r
+  pub little : j * recordSize + recordSize ≤ 49152
+  pub word : g .records + j * recordSize + recordSize ≤ 4294967296
+
+pub ready-lies : (s h r : ℕ) (g : Sheet) (i j : ℕ) → Ready s h r g i j → Lies h r g i j
+ready-lies s h r g i j k =
+    let law = k .opened .law in
+    let a = chunk-inside g law i (k .buffer) in
+    let b = record-inside g law j (k .own) in
+    record {
+      chunk = omega (arith, k .opened .heapLong);
+      small = chunk-small g law i (k .buffer);
+      slot = omega (arith, k .opened .recordsLong);
+      little = record-small g law j (k .own);
+      word = record-word g law j (k .own);
+    }
 
 -- the client's bytes lie in the heap, and are few
 pub record Client (h : ℕ) (p : Holding) : Type 0 where
@@ -143,15 +178,10 @@ pub record Client (h : ℕ) (p : Holding) : Type 0 where
 
 pub client-inside : (s h r : ℕ) (p : Holding) → Holds s h r p → Client h p
 client-inside s h r p k =
-    let g = p .sheet in
-    let law = k .ready .opened .law in
-    let w = grant-within (g .size) (p .grant) (k .granted) in
-    let m = law .sizes .most in
-    let e = law .sizes .chunks in
-    let a = chunk-inside g law (p .buffer) (k .ready .buffer) in
-    let b = chunk-small g law (p .buffer) (k .ready .buffer) in
-    let l = k .ready .opened .heapLong in
-    record { inside = omega arith; few = omega arith; small = b }
+    let w = grant-within (p .sheet .size) (p .grant) (k .granted) in
+    let z = k .ready .opened .law .sizes in
+    let l = ready-lies s h r (p .sheet) (p .buffer) (p .own) (k .ready) in
+    record { inside = omega arith; few = omega arith; small = l .small }
 
 -- ---- what is shown
 

@@ -36,13 +36,14 @@ length-field tag len body = simp (length-append, length-bytesOf) (omega arith)
 pub field-run : (l a b c : List ℕ) (at tag len body : ℕ) → a ≡ sets l at (bytesOf 1 tag) → b ≡ sets a (at + 1) (bytesOf 2 len)
     → c ≡ sets b (at + 3) (bytesOf len body) → c ≡ sets l at (field tag len body)
 field-run l a b c at tag len body ea eb ec =
-    sets-three l (bytesOf 1 tag) (bytesOf 2 len) (bytesOf len body) at (at + 1) (at + 3) (omega (arith, length-bytesOf 1 tag)) (omega (arith, length-bytesOf 2 len))
-    ea eb ec
+    sets-three l (bytesOf 1 tag) (bytesOf 2 len) (bytesOf len body) at (at + 1) (at + 3)
+    (omega (arith, length-bytesOf 1 tag)) (omega (arith, length-bytesOf 2 len)) ea eb ec
 
 -- three fields of one width in a row
 pub fields-run : (l : List ℕ) (at w i j t u v x y z : ℕ) {a b c : List ℕ} → at + (3 + w) ≡ i → i + (3 + w) ≡ j
     → a ≡ sets l at (field t w x) → b ≡ sets a i (field u w y) → c ≡ sets b j (field v w z) → c ≡ sets l at (field t w x ++ field u w y ++ field v w z)
-fields-run l at w i j t u v x y z ei ej = sets-three l (field t w x) (field u w y) (field v w z) at i j (omega (arith, length-field t w x)) (omega (arith, length-field u w y))
+fields-run l at w i j t u v x y z ei ej =
+    sets-three l (field t w x) (field u w y) (field v w z) at i j (omega (arith, length-field t w x)) (omega (arith, length-field u w y))
 
 module _ (g : Sheet) where
   -- three fields, three more and two in a row are the sheet
@@ -101,7 +102,8 @@ module _ (g : Sheet) where
       let p₂ = p₁ ++ bytesOf 4 buffer in
       let p₃ = p₂ ++ bytesOf 4 0 in
       let p₄ = p₃ ++ bytesOf 4 (g .cache) in
-      let q₂ = sets-next l p₁ (bytesOf 4 buffer) at 4 (at + 4) (ea ∙ ap (λ (k : ℕ). sets l k (bytesOf 4 link)) (add-zero at)) (length-bytesOf 4 link) refl eb in
+      let q₁ = ea ∙ ap (λ (k : ℕ). sets l k p₁) (add-zero at) in
+      let q₂ = sets-next l p₁ (bytesOf 4 buffer) at 4 (at + 4) q₁ (length-bytesOf 4 link) refl eb in
       let q₃ = sets-next l p₂ (bytesOf 4 0) at 8 (at + 8) q₂ (simp (length-append, length-bytesOf)) refl ec in
       let q₄ = sets-next l p₃ (bytesOf 4 (g .cache)) at 12 (at + 12) q₃ (simp (length-append, length-bytesOf)) refl ed in
       rw (← el, ← eu, ← zeros) (sets-next l p₄ (repeated 80 0) at 16 (at + 16) q₄ (simp (length-append, length-bytesOf)) refl ee)

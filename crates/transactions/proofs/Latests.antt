@@ -31,16 +31,21 @@ LatestIf r l (Row k) = (k * rowSize + rowSize ≤ l) × (k < 1024)
 LatestIf r l (Record j) = (j * recordSize + recordSize ≤ r) × (j < 512)
 LatestIf r l (Refused why) = Unit {0}
 
+-- what the rows leave of record j
+abbrev chosen : Sheet → List ℕ → List ℕ → ℕ → ℕ → Place
+chosen g records log time j =
+    latestRow log (recordAddress g j) time (firstBest (recordWord records j stampLowAt) time) (length log / rowSize) .row
+
 owned-if : (g : Sheet) (h : ℕ) (records log : List ℕ) (time j : ℕ) → Open h (length records) g → length log ≤ 16384 → j < g .count
     → LatestIf (length records) (length log) (ownedLatest g records log time j)
 unfolding ownedLatest
 owned-if g h records log time j o few below =
-    by-test P (eqb (recordWord records j stampHighAt) 0) (λ t. go (latestRow log (recordAddress g j) time (firstBest (recordWord records j stampLowAt) time) (length log / rowSize) .row) refl) (λ t. tt)
+    by-test P (eqb (recordWord records j stampHighAt) 0) (λ t. go (chosen g records log time j) refl) (λ t. tt)
   where
     P : Transaction → Type 0
     P = LatestIf (length records) (length log)
 
-    go : (p : Place) → latestRow log (recordAddress g j) time (firstBest (recordWord records j stampLowAt) time) (length log / rowSize) .row ≡ p → P (rowOrRecord p j)
+    go : (p : Place) → chosen g records log time j ≡ p → P (rowOrRecord p j)
     go (place.At k) e = let b = row-below _ _ _ _ _ _ e in (omega arith, omega arith)
     go place.Nowhere e = let i = record-inside g (o .law) j below in (omega (arith, o .recordsLong), omega (arith, o .law .sizes .few))
 
@@ -58,7 +63,8 @@ latest-if a log index time =
     P : Transaction → Type 0
     P = LatestIf (length (a .records)) (length log)
 
-    go : (g : Sheet) → Open (length (a .heap)) (length (a .records)) g → length log ≤ 16384 → (w : Own) → ownOf (a .records) (g .count) (bufferAddress g index) ≡ w
+    go : (g : Sheet) → Open (length (a .heap)) (length (a .records)) g → length log ≤ 16384
+        → (w : Own) → ownOf (a .records) (g .count) (bufferAddress g index) ≡ w
         → P (byOwn w (ownedLatest g (a .records) log time) (Refused (Damage NotOneRecord)))
     go g o few (One j) e = owned-if g (length (a .heap)) (a .records) log time j o few (own-below _ _ _ _ e)
     go g o few NotOne e = tt

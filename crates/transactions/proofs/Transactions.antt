@@ -79,7 +79,8 @@ module _ (log : List ℕ) (a time : ℕ) where
   unfolding latestRow considered
   latest-smallest stamp zero = smallest-none stamp
   latest-smallest stamp (suc n) =
-      go (latestRow log a time (firstBest stamp time) n) (rowNames log a n) (leb (rowAge log time n) (latestRow log a time (firstBest stamp time) n .age)) refl refl (latest-smallest stamp n)
+      let b = latestRow log a time (firstBest stamp time) n in
+      go b (rowNames log a n) (leb (rowAge log time n) (b .age)) refl refl (latest-smallest stamp n)
     where
       go : (b : Best) (t u : Bool) → rowNames log a n ≡ t → leb (rowAge log time n) (b .age) ≡ u → Smallest log a time stamp n b
           → Smallest log a time stamp (suc n) (pick (t && u) (record { row = At n; age = rowAge log time n }) b)

@@ -7,20 +7,12 @@ use Rattle.layout.proofs.commit.Tie as tie
 returns : tie.Need-returns
 unfolding laidAreas
 returns c =
-    rw (
-      c .before .before .before .before .before .before .before .before .before .before .write-sheet .ensures,
-      c .before .before .before .before .before .before .write-heap .ensures,
-      c .before .before .write-records .ensures,
-    )
+    let h = c .before .before .before .before .before .before in
+    rw (h .before .before .before .before .write-sheet .ensures, h .write-heap .ensures, c .before .before .write-records .ensures)
 
 pub commit-spec : {M : Type 1} → statement M
 commit-spec =
     tie.close
     (tie.spec
-    (λ c κs. search needs)
-    (λ c κs. search needs)
-    (λ c κs. search needs)
-    (λ c. search needs)
-    (λ c. search needs)
-    (λ c. search needs)
+    (λ c κs. search needs) (λ c κs. search needs) (λ c κs. search needs) (λ c. search needs) (λ c. search needs) (λ c. search needs)
     returns)

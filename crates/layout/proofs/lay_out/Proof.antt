@@ -14,24 +14,19 @@ commit-requires c κs =
 returns : tie.Need-returns
 unfolding layOutOf
 returns c =
-    rw (← c .before .before .before .before .sheet-for .ensures, ← c .before .before .before .plan .ensures, c .before .planned .given .1)
+    let p = c .before in
+    rw (← p .before .before .before .sheet-for .ensures, ← p .before .before .plan .ensures, p .planned .given .1)
 
 returns-2 : tie.Need-returns-2
 unfolding layOutOf
 returns-2 c =
-    rw (← c .before .before .before .before .before .before .before .before .before .before .before .before .before .before .sheet-for .ensures, ← c .before .before .before .before .before .before .before .before .before .before .before .before .before .plan .ensures, c .before .before .before .before .before .before .before .before .before .before .before .planned2 .given .1, c .before .before .before .before .before .before .commit .ensures)
+    let w = c .before .before .before .before .before .before in
+    let p = w .before .before .before .before .before in
+    rw (← p .before .before .before .sheet-for .ensures, ← p .before .before .plan .ensures, p .planned2 .given .1, w .commit .ensures)
 
 pub lay-out-spec : {M : Type 1} → statement M
 lay-out-spec =
     tie.close
     (tie.spec
-    (λ c κs. search needs)
-    (λ c κs. search needs)
-    (λ c. search needs)
-    (λ c. search needs)
-    commit-requires
-    returns
-    (λ c. search needs)
-    (λ c. search needs)
-    (λ c. search needs)
-    returns-2)
+    (λ c κs. search needs) (λ c κs. search needs) (λ c. search needs) (λ c. search needs) commit-requires returns (λ c. search needs)
+    (λ c. search needs) (λ c. search needs) returns-2)

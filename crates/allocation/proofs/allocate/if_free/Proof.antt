@@ -4,11 +4,10 @@ use borrow.Author.Needs.{needs}
 use Rattle.allocation.proofs.allocate.if_free.Statement.{statement}
 use Rattle.allocation.proofs.allocate.if_free.Tie as tie
 
-returns : tie.Need-returns
-returns c = rw (← c .before .number .ensures, eq-eqb _ _ (c .if1 .taken))
-
-returns-2 : tie.Need-returns-2
-returns-2 c = rw (← c .before .number .ensures, ne-eqb _ _ (c .if1 .left))
-
 pub if-free-spec : {M : Type 1} → statement M
-if-free-spec = tie.close (tie.spec (λ c κs. search needs) returns returns-2)
+if-free-spec =
+    tie.close
+    (tie.spec
+    (λ c κs. search needs)
+    (λ c. rw (← c .before .number .ensures, eq-eqb _ _ (c .if1 .taken)))
+    (λ c. rw (← c .before .number .ensures, ne-eqb _ _ (c .if1 .left))))

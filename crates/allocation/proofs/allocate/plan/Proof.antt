@@ -6,18 +6,12 @@ use Rattle.opening.proofs.Opens.{opened-known}
 use Rattle.allocation.proofs.allocate.plan.Statement.{statement}
 use Rattle.allocation.proofs.allocate.plan.Tie as tie
 
-take-requires : tie.Need-take-requires
-take-requires c κs = opened-known _ _ _ _ (sym (c .before .before .before .«open» .ensures) ∙ c .before .opened2 .given .1) .opens
-
-returns : tie.Need-returns
-unfolding allocatePlan
-returns c = rw (← c .before .before .before .«open» .ensures, c .before .opened .given .1)
-
-returns-2 : tie.Need-returns-2
-unfolding allocatePlan
-returns-2 c = rw (← c .before .before .before .before .«open» .ensures, c .before .before .opened2 .given .1) (c .take .ensures)
-
 pub plan-spec : {M : Type 1} → statement M
+unfolding allocatePlan
 plan-spec =
     tie.close
-    (tie.spec (λ c κs. search needs) (λ c. search needs) (λ c. search needs) take-requires returns returns-2)
+    (tie.spec
+    (λ c κs. search needs) (λ c. search needs) (λ c. search needs)
+    (λ c κs. opened-known _ _ _ _ (sym (c .before .before .before .«open» .ensures) ∙ c .before .opened2 .given .1) .opens)
+    (λ c. rw (← c .before .before .before .«open» .ensures, c .before .opened .given .1))
+    (λ c. rw (← c .before .before .before .before .«open» .ensures, c .before .before .opened2 .given .1) (c .take .ensures)))

@@ -1,81 +1,70 @@
 -- The chunk comes back in its place, and the record and the head are written after it. Assumes nothing.
-use mathlib.Core.Path.{_≡_}
-use Prim.Native.Nat.{_+_, _*_, ℕ}
+use Prim.Native.Nat.{ℕ}
 use native.Mathlib.Omega.{arith}
 use borrow.Author.Needs.{needs}
-use Rattle.area.specs.Record.{recordSize, nextAt}
+use lib.ListN.{length}
 use Rattle.holding.specs.Free.{freedAreas}
 use Rattle.opening.specs.Areas.{recordAddress}
-use Rattle.opening.proofs.Sheets.{chunk-inside, chunk-small, record-inside, record-small, record-word, lent-lawful, chunk-back}
+use Rattle.opening.proofs.Sheets.{lent-lawful, chunk-back}
 use Rattle.chunks.proofs.Chunks.{length-freeChunk}
 use Rattle.chunks.specs.Chunk.{freeChunk}
+use Rattle.holding.proofs.Holdings.{Lies, ready-lies}
 use Rattle.holding.proofs.free.commit.Statement.{statement}
 use Rattle.holding.proofs.free.commit.Tie as tie
 
-mul-at : tie.Need-mul-at
-mul-at c = let s = c .before .before .before .before .before .before in let k = chunk-small (s .args .p .sheet) (s .pre .ready .opened .law) _ (s .pre .ready .buffer) in omega arith
+-- where the code starts, and where it has the sheet
+abbrev start : tie.After-g → tie.Start
+start c = c .before .before .before .before
 
-add-end : tie.Need-add-end
-add-end c = let s = c .before .before .before .before .before .before .before in let k = chunk-small (s .args .p .sheet) (s .pre .ready .opened .law) _ (s .pre .ready .buffer) in omega arith
+abbrev sheeted : tie.After-write-free → tie.After-g
+sheeted c = c .before .before .before .before .before .before .before
 
-add-record-at : tie.Need-add-record-at
-add-record-at c = let s = c .before .before .before .before .before .before .before .before .before in let k = record-word (s .args .p .sheet) (s .pre .ready .opened .law) _ (s .pre .ready .own) in omega arith
-
-part-write-free-end : tie.Need-part-write-free-end
-part-write-free-end c = let s = c .before .before .before .before .before .before .before .before .before in let k = chunk-inside (s .args .p .sheet) (s .pre .ready .opened .law) _ (s .pre .ready .buffer) in let e = s .pre .ready .opened .heapLong in omega arith
+-- chunk and record lie in the areas
+lies : (c : tie.After-g) → let a = start c .args in
+    Lies (length (a .heap .now)) (length (a .records .now)) (a .p .sheet) (a .p .buffer) (a .p .own)
+lies c = ready-lies _ _ _ _ _ _ (start c .pre .ready)
 
 write-free-requires : tie.Need-write-free-requires
-write-free-requires c κs = let s = c .before .before .before .before .before .before .before .before .before .before in let k = s .pre .ready in lent-lawful (s .args .heap .now) (s .args .p .sheet) (s .args .p .buffer) (k .opened .law) (k .opened .heapLong) (k .buffer)
-
-add-write-u32 : tie.Need-add-write-u32
-add-write-u32 c =
-    let s = c .before .before .before .before .before .before .before .before .before .before .before .before .before .before in
-    let k = record-small (s .args .p .sheet) (s .pre .ready .opened .law) _ (s .pre .ready .own) in
-    omega arith
-
-write-u32-requires : tie.Need-write-u32-requires
-write-u32-requires c κs = let s = c .before .before .before .before .before .before .before .before .before .before .before .before .before .before in let k = record-inside (s .args .p .sheet) (s .pre .ready .opened .law) _ (s .pre .ready .own) in let e = s .pre .ready .opened .recordsLong in omega arith
-
-stamp-requires : tie.Need-stamp-requires
-stamp-requires c κs = let s = c .before .before .before .before .before .before .before .before .before .before .before .before .before .before .before .before .before .before in let k = record-inside (s .args .p .sheet) (s .pre .ready .opened .law) _ (s .pre .ready .own) in let e = s .pre .ready .opened .recordsLong in omega arith
+write-free-requires c κs =
+    let s = start (c .before .before .before .before .before .before) in
+    let k = s .pre .ready in
+    lent-lawful (s .args .heap .now) (s .args .p .sheet) (s .args .p .buffer) (k .opened .law) (k .opened .heapLong) (k .buffer)
 
 write-u32-requires-2 : tie.Need-write-u32-requires-2
-write-u32-requires-2 c κs = let s = c .before .before .before .before .before .before .before .before .before .before .before .before .before .before .before .before .before .before .before .before .before .before in let e = s .pre .ready .long in omega arith
+write-u32-requires-2 c κs =
+    let n = c .before .before .before .before .before .before .before in
+    omega (arith, start (sheeted (n .before .before .before .before)) .pre .ready .long)
 
 returns : tie.Need-returns
 unfolding freedAreas
 returns c =
-    let s = c .before .before .before .before .before .before .before .before .before .before .before .before .before .before .before .before .before .before .before .before .before .before .before .before .before in
+    let m = c .before .before .before .before .before .before in
+    let n = m .before .before .before .before in
+    let w = n .before .before .before .before in
+    let s = start (sheeted w) in
     let k = s .pre .ready in
     let p = s .args .p in
-    let g = p .sheet in
-    let written = c .before .before .before .before .before .before .before .before .before .before .before .before .before .before .write-free in
+    let a = recordAddress (p .sheet) (p .own) in
     rw (
       c .before .before .write-u322 .ensures,
-      chunk-back (s .args .heap .now) g (p .buffer) (k .opened .law) (k .opened .heapLong) (k .buffer) (λ (n : ℕ). freeChunk n (recordAddress g (p .own)))
-          (written .last .0) (λ n. length-freeChunk n (recordAddress g (p .own))) (written .ensures),
-      c .before .before .before .before .before .before .stamp .ensures,
-      c .before .before .before .before .before .before .before .before .before .before .write-u32 .ensures,
+      chunk-back (s .args .heap .now) (p .sheet) (p .buffer) (k .opened .law) (k .opened .heapLong) (k .buffer) (λ (n : ℕ). freeChunk n a)
+          (w .write-free .last .0) (λ n. length-freeChunk n a) (w .write-free .ensures),
+      m .stamp .ensures,
+      n .write-u32 .ensures,
     )
 
 pub commit-spec : {M : Type 1} → statement M
 commit-spec =
     tie.close
     (tie.spec
-    mul-at
-    add-end
-    (λ c. search needs)
-    (λ c. search needs)
-    add-record-at
-    (λ c. search needs)
-    (λ c. search needs)
-    part-write-free-end
+    (λ c. let k = lies (c .before .before) in omega arith)
+    (λ c. let k = lies (c .before .before .before) in omega arith)
+    (λ c. search needs) (λ c. search needs)
+    (λ c. let k = lies (c .before .before .before .before .before) in omega arith)
+    (λ c. search needs) (λ c. search needs)
+    (λ c. let k = lies (c .before .before .before .before .before) in omega arith)
     write-free-requires
-    add-write-u32
-    write-u32-requires
-    stamp-requires
-    write-u32-requires-2
-    (λ c. search needs)
-    (λ c. search needs)
-    (λ c. search needs)
-    returns)
+    (λ c. let k = lies (sheeted (c .before .before .before)) in omega arith)
+    (λ c κs. let k = lies (sheeted (c .before .before .before)) in omega arith)
+    (λ c κs. let k = lies (sheeted (c .before .before .before .before .before .before .before)) in omega arith)
+    write-u32-requires-2 (λ c. search needs) (λ c. search needs) (λ c. search needs) returns)

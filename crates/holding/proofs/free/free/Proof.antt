@@ -11,27 +11,18 @@ commit-requires c κs =
     let p = c .before .before .before .before in
     held-known _ _ _ (freed-held _ _ _ _ (sym (p .before .before .plan .ensures) ∙ p .h2 .given .1)) .holds
 
-returns : tie.Need-returns
-unfolding freeOf
-returns c = rw (← c .before .before .before .plan .ensures, c .before .h .given .1)
-
 returns-2 : tie.Need-returns-2
 unfolding freeOf
-returns-2 c = rw (← c .before .before .before .before .before .before .before .before .before .before .before .before .before .plan .ensures, c .before .before .before .before .before .before .before .before .before .before .before .h2 .given .1, c .before .before .before .before .before .before .commit .ensures)
+returns-2 c =
+    let w = c .before .before .before .before .before .before in
+    let p = w .before .before .before .before .before in
+    rw (← p .before .before .plan .ensures, p .h2 .given .1, w .commit .ensures)
 
 pub free-spec : {M : Type 1} → statement M
+unfolding freeOf
 free-spec =
     tie.close
     (tie.spec
-    (λ c κs. search needs)
-    (λ c. search needs)
-    (λ c. search needs)
-    commit-requires
-    (λ c. search needs)
-    (λ c. search needs)
-    (λ c. search needs)
-    returns
-    (λ c. search needs)
-    (λ c. search needs)
-    (λ c. search needs)
-    returns-2)
+    (λ c κs. search needs) (λ c. search needs) (λ c. search needs) commit-requires (λ c. search needs) (λ c. search needs) (λ c. search needs)
+    (λ c. rw (← c .before .before .before .plan .ensures, c .before .h .given .1))
+    (λ c. search needs) (λ c. search needs) (λ c. search needs) returns-2)

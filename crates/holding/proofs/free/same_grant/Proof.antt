@@ -3,20 +3,10 @@ use borrow.Author.Needs.{needs}
 use Rattle.holding.proofs.free.same_grant.Statement.{statement}
 use Rattle.holding.proofs.free.same_grant.Tie as tie
 
-returns-4 : tie.Need-returns-4
-returns-4 c = rw (c .before .before .before .before .a .given .1, c .before .b .given .1)
-
 pub same-grant-spec : {M : Type 1} → statement M
 same-grant-spec =
     tie.close
     (tie.spec
-    (λ c. search needs)
-    (λ c. search needs)
-    (λ c. search needs)
-    (λ c. search needs)
-    (λ c. search needs)
-    (λ c. search needs)
-    (λ c. search needs)
-    (λ c. search needs)
-    (λ c. search needs)
-    returns-4)
+    (λ c. search needs) (λ c. search needs) (λ c. search needs) (λ c. search needs) (λ c. search needs) (λ c. search needs)
+    (λ c. search needs) (λ c. search needs) (λ c. search needs)
+    (λ c. rw (c .before .before .before .before .a .given .1, c .before .b .given .1)))

@@ -10,9 +10,6 @@ use Rattle.holding.specs.Holding.{heldChunk}
 use Rattle.holding.proofs.holding.held_chunk.Statement.{statement}
 use Rattle.holding.proofs.holding.held_chunk.Tie as tie
 
-enum-told : tie.Need-enum-told
-enum-told c = search needs
-
 -- the record that T0 names is one of the image's
 own : (c : tie.After-p) → c .p .given .0 .0 < c .before .before .before .before .before .before .args .g .count
 own c = place-found _ _ _ _ _ (sym (c .before .before .find .ensures) ∙ c .p .given .1) .0
@@ -33,24 +30,18 @@ returns c =
     rw (← tag, ← p .before .before .find .ensures, p .p .given .1, ← c .before .before .read .ensures, eq-eqb _ _ (c .before .if1 .taken), tag)
     (c .held-by .ensures)
 
-returns-2 : tie.Need-returns-2
-unfolding heldChunk
-returns-2 c = rw (← c .before .before .before .read-tag .ensures, ← c .before .before .find .ensures, c .enum-told .given .1)
-
 returns-3 : tie.Need-returns-3
 unfolding heldChunk
-returns-3 c = rw (← c .before .before .before .before .before .before .read-tag .ensures, ← c .before .before .before .before .before .find .ensures, c .before .before .before .p .given .1, ← c .before .read .ensures, ne-eqb _ _ (c .if1 .left))
+returns-3 c =
+    let p = c .before .before .before in
+    let f = p .before .before in
+    rw (← f .before .read-tag .ensures, ← f .find .ensures, p .p .given .1, ← c .before .read .ensures, ne-eqb _ _ (c .if1 .left))
 
 pub held-chunk-spec : {M : Type 1} → statement M
+unfolding heldChunk
 held-chunk-spec =
     tie.close
     (tie.spec
-    (λ c κs. search needs)
-    (λ c κs. search needs)
-    enum-told
-    (λ c. search needs)
-    read-requires
-    (λ c κs. search needs)
-    returns
-    returns-2
+    (λ c κs. search needs) (λ c κs. search needs) (λ c. search needs) (λ c. search needs) read-requires (λ c κs. search needs) returns
+    (λ c. rw (← c .before .before .before .read-tag .ensures, ← c .before .before .find .ensures, c .enum-told .given .1))
     returns-3)

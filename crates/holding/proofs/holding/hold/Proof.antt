@@ -6,24 +6,12 @@ use Rattle.holding.specs.Holding.{heldOf}
 use Rattle.holding.proofs.holding.hold.Statement.{statement}
 use Rattle.holding.proofs.holding.hold.Tie as tie
 
-held-at-requires : tie.Need-held-at-requires
-held-at-requires c κs = opened-known _ _ _ _ (sym (c .before .before .before .«open» .ensures) ∙ c .before .opened2 .given .1) .opens
-
-returns : tie.Need-returns
-unfolding heldOf
-returns c = rw (← c .before .before .before .«open» .ensures, c .before .opened .given .1)
-
-returns-2 : tie.Need-returns-2
-unfolding heldOf
-returns-2 c = rw (← c .before .before .before .before .«open» .ensures, c .before .before .opened2 .given .1) (c .held-at .ensures)
-
 pub hold-spec : {M : Type 1} → statement M
+unfolding heldOf
 hold-spec =
     tie.close
     (tie.spec
-    (λ c κs. search needs)
-    (λ c. search needs)
-    (λ c. search needs)
-    held-at-requires
-    returns
-    returns-2)
+    (λ c κs. search needs) (λ c. search needs) (λ c. search needs)
+    (λ c κs. opened-known _ _ _ _ (sym (c .before .before .before .«open» .ensures) ∙ c .before .opened2 .given .1) .opens)
+    (λ c. rw (← c .before .before .before .«open» .ensures, c .before .opened .given .1))
+    (λ c. rw (← c .before .before .before .before .«open» .ensures, c .before .before .opened2 .given .1) (c .held-at .ensures)))

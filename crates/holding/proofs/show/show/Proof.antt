@@ -1,41 +1,31 @@
 -- The part is cut where the answer says. Assumes nothing.
 use mathlib.Core.Path.{refl, sym, _∙_}
-use Prim.Native.Nat.{_-_}
+use Prim.Native.Nat.{_+_, _-_, _≤_}
 use native.Mathlib.Omega.{arith}
 use borrow.Author.Needs.{needs}
+use lib.ListN.{length}
 use Rattle.holding.proofs.Holdings.{shown-known}
 use Rattle.words.proofs.Parts.{part-lent}
 use Rattle.holding.proofs.show.show.Statement.{statement}
 use Rattle.holding.proofs.show.show.Tie as tie
 
-enum-told : tie.Need-enum-told
-enum-told c = search needs
-
-add-end : tie.Need-add-end
-add-end c = omega (arith, shown-known _ _ _ _ (sym (c .before .before .before .find-client .ensures) ∙ c .before .c .given .1) .inside)
-
-part-result-end-2 : tie.Need-part-result-end-2
-part-result-end-2 c = omega (arith, shown-known _ _ _ _ (sym (c .before .before .before .find-client .ensures) ∙ c .before .c .given .1) .inside)
-
-returns : tie.Need-returns
-returns c = rw (← c .before .before .before .find-client .ensures, c .before .enum-told .given .1) (refl, tt)
+-- the part lies in the heap
+inside : (c : tie.After-c) → c .c .given .0 .0 + c .c .given .0 .1 .0 ≤ length (c .before .before .before .before .before .before .args .heap .now)
+inside c = shown-known _ _ _ _ (sym (c .before .before .find-client .ensures) ∙ c .c .given .1) .inside
 
 returns-2 : tie.Need-returns-2
-returns-2 c = let f = c .before .before in rw (← f .before .before .find-client .ensures, f .c .given .1) (part-lent _ (f .c .given .0 .0) (f .c .given .0 .1 .0), (refl, omega arith))
+returns-2 c =
+    let f = c .before .before in
+    rw (← f .before .before .find-client .ensures, f .c .given .1)
+    (part-lent _ (f .c .given .0 .0) (f .c .given .0 .1 .0), (refl, omega arith))
 
 pub show-spec : {M : Type 1} → statement M
 show-spec =
     tie.close
     (tie.spec
-    (λ c κs. search needs)
-    enum-told
-    (λ c. search needs)
-    (λ c. search needs)
-    (λ c. search needs)
-    (λ c. search needs)
-    add-end
-    (λ c. search needs)
-    (λ c. search needs)
-    part-result-end-2
-    returns
+    (λ c κs. search needs) (λ c. search needs) (λ c. search needs) (λ c. search needs) (λ c. search needs) (λ c. search needs)
+    (λ c. omega (arith, inside (c .before)))
+    (λ c. search needs) (λ c. search needs)
+    (λ c. omega (arith, inside (c .before)))
+    (λ c. rw (← c .before .before .before .find-client .ensures, c .before .enum-told .given .1) (refl, tt))
     returns-2)

@@ -1,46 +1,27 @@
 -- The offset is tested before the length is added, so that no sum wraps. Assumes nothing.
-use Prim.Native.Nat.{_+_}
+use mathlib.Core.Path.{_≡_, sym, _∙_}
 use native.Mathlib.Omega.{arith}
-use borrow.Author.Tests.{le-leb, lt-leb}
 use borrow.Author.Needs.{needs}
+use Rattle.opening.specs.Areas.{lent}
+use Rattle.holding.specs.Holding.{heldOf}
 use Rattle.holding.specs.Store.{storePlan}
+use Rattle.holding.specs.declared.holding.Held.the-variants.{Buffer}
+use Rattle.holding.proofs.Holdings.{store-past, store-within}
 use Rattle.holding.proofs.store.plan.Statement.{statement}
 use Rattle.holding.proofs.store.plan.Tie as tie
 
-returns : tie.Need-returns
-unfolding storePlan
-returns c =
-    let o = c .before .before .before .before in
-    let a = o .before .before .before .before .before .before .args in
-    rw (← o .before .before .hold .ensures, o .h2 .given .1, ← c .before .client-size .ensures, lt-leb (a .offset + a .len) (c .before .client-size .result) (omega arith))
-
-returns-2 : tie.Need-returns-2
-unfolding storePlan
-returns-2 c =
-    let o = c .before .before .before .before .before in
-    let a = o .before .before .before .before .before .before .args in
-    rw (← o .before .before .hold .ensures, o .h2 .given .1, ← c .before .before .client-size .ensures, lt-leb (a .offset + a .len) (c .before .before .client-size .result) (omega arith))
-
-returns-3 : tie.Need-returns-3
-unfolding storePlan
-returns-3 c = rw (← c .before .before .before .hold .ensures, c .before .h .given .1)
-
-returns-4 : tie.Need-returns-4
-unfolding storePlan
-returns-4 c =
-    let o = c .before .before .before .before .before in
-    let a = o .before .before .before .before .before .before .args in
-    rw (← o .before .before .hold .ensures, o .h2 .given .1, ← c .before .before .client-size .ensures, le-leb (a .offset + a .len) (c .before .before .client-size .result) (omega arith))
+-- the buffer is held
+held : (c : tie.After-h2) → let a = c .before .before .before .before .before .before .args in
+    heldOf (lent (a .sheet) (a .heap) (a .records)) (a .address) ≡ Buffer (c .h2 .given .0 .0)
+held c = sym (c .before .before .hold .ensures) ∙ c .h2 .given .1
 
 pub plan-spec : {M : Type 1} → statement M
+unfolding storePlan
 plan-spec =
     tie.close
     (tie.spec
-    (λ c κs. search needs)
-    (λ c. search needs)
-    (λ c. search needs)
-    (λ c κs. search needs)
-    returns
-    returns-2
-    returns-3
-    returns-4)
+    (λ c κs. search needs) (λ c. search needs) (λ c. search needs) (λ c κs. search needs)
+    (λ c. store-past _ _ _ _ _ (held (c .before .before .before .before)) (omega (arith, c .before .client-size .ensures)))
+    (λ c. store-past _ _ _ _ _ (held (c .before .before .before .before .before)) (omega (arith, c .before .before .client-size .ensures)))
+    (λ c. rw (← c .before .before .before .hold .ensures, c .before .h .given .1))
+    (λ c. store-within _ _ _ _ _ (held (c .before .before .before .before .before)) (omega (arith, c .before .before .client-size .ensures))))

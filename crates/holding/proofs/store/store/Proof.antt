@@ -18,19 +18,6 @@ fits c =
     let k = stored-held _ _ _ _ _ (sym (c .before .before .plan .ensures) ∙ c .h2 .given .1) in
     (client-inside _ _ _ _ (held-known _ _ _ (k .0) .holds), k .1)
 
-mul-at : tie.Need-mul-at
-mul-at c = omega (arith, fits (c .before .before .before .before) .0 .small)
-
-add-write-run : tie.Need-add-write-run
-add-write-run c = let k = fits (c .before .before .before .before .before) in omega (arith, k .0 .small, k .0 .few, k .1)
-
-write-run-requires : tie.Need-write-run-requires
-write-run-requires c κs = let k = fits (c .before .before .before .before .before) in omega (arith, k .0 .inside, k .1)
-
-returns : tie.Need-returns
-unfolding storeOf
-returns c = rw (← c .before .before .before .plan .ensures, c .before .h .given .1)
-
 returns-2 : tie.Need-returns-2
 unfolding storeOf storedAreas
 returns-2 c =
@@ -38,16 +25,14 @@ returns-2 c =
     rw (← o .before .before .plan .ensures, o .h2 .given .1, c .before .before .write-run .ensures)
 
 pub store-spec : {M : Type 1} → statement M
+unfolding storeOf
 store-spec =
     tie.close
     (tie.spec
-    (λ c κs. search needs)
+    (λ c κs. search needs) (λ c. search needs) (λ c. search needs)
+    (λ c. let k = fits (c .before .before .before .before) in omega arith)
+    (λ c. let k = fits (c .before .before .before .before .before) in omega arith)
+    (λ c κs. let k = fits (c .before .before .before .before .before) in omega arith)
     (λ c. search needs)
-    (λ c. search needs)
-    mul-at
-    add-write-run
-    write-run-requires
-    (λ c. search needs)
-    returns
-    (λ c. search needs)
-    returns-2)
+    (λ c. rw (← c .before .before .before .plan .ensures, c .before .h .given .1))
+    (λ c. search needs) returns-2)

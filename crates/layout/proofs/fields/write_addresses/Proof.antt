@@ -6,9 +6,11 @@ use Rattle.layout.proofs.fields.write_addresses.Statement.{statement}
 use Rattle.layout.proofs.fields.write_addresses.Tie as tie
 
 returns : tie.Need-returns
-returns c = fields-run _ 0 4 7 14 1 2 3 _ _ _ refl refl (c .before .before .before .before .before .before .before .before .before .before .write-long .ensures) (c .before .before .before .before .before .before .write-long2 .ensures) (c .before .before .write-long3 .ensures)
+returns c =
+    let m = c .before .before .before .before .before .before in
+    fields-run _ 0 4 7 14 1 2 3 _ _ _ refl refl (m .before .before .before .before .write-long .ensures) (m .write-long2 .ensures)
+    (c .before .before .write-long3 .ensures)
 
 pub write-addresses-spec : {M : Type 1} → statement M
 write-addresses-spec =
-    tie.close
-    (tie.spec (λ c κs. search needs) (λ c κs. search needs) (λ c κs. search needs) (λ c. search needs) returns)
+    tie.close (tie.spec (λ c κs. search needs) (λ c κs. search needs) (λ c κs. search needs) (λ c. search needs) returns)

@@ -5,16 +5,13 @@ use Rattle.layout.proofs.fields.write_long.Statement.{statement}
 use Rattle.layout.proofs.fields.write_long.Tie as tie
 
 returns : tie.Need-returns
-returns c = field-run _ _ _ _ _ _ _ _ (c .before .before .before .before .before .before .before .before .before .before .write-u8 .ensures) (c .before .before .before .before .before .before .write-u16 .ensures) (c .before .before .write-u32 .ensures)
+returns c =
+    let l = c .before .before .before .before .before .before in
+    field-run _ _ _ _ _ _ _ _ (l .before .before .before .before .write-u8 .ensures) (l .write-u16 .ensures) (c .before .before .write-u32 .ensures)
 
 pub write-long-spec : {M : Type 1} → statement M
 write-long-spec =
     tie.close
     (tie.spec
-    (λ c κs. search needs)
-    (λ c. search needs)
-    (λ c κs. search needs)
-    (λ c. search needs)
-    (λ c κs. search needs)
-    (λ c. search needs)
+    (λ c κs. search needs) (λ c. search needs) (λ c κs. search needs) (λ c. search needs) (λ c κs. search needs) (λ c. search needs)
     returns)

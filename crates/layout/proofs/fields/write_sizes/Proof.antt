@@ -6,17 +6,14 @@ use Rattle.layout.proofs.fields.write_sizes.Statement.{statement}
 use Rattle.layout.proofs.fields.write_sizes.Tie as tie
 
 returns : tie.Need-returns
-returns c = fields-run _ 21 2 26 31 4 5 6 _ _ _ refl refl (c .before .before .before .before .before .before .before .before .before .before .before .before .write-short .ensures) (c .before .before .before .before .before .before .before .write-short2 .ensures) (c .before .before .write-short3 .ensures)
+returns c =
+    let m = c .before .before .before .before .before .before .before in
+    fields-run _ 21 2 26 31 4 5 6 _ _ _ refl refl (m .before .before .before .before .before .write-short .ensures) (m .write-short2 .ensures)
+    (c .before .before .write-short3 .ensures)
 
 pub write-sizes-spec : {M : Type 1} → statement M
 write-sizes-spec =
     tie.close
     (tie.spec
-    (λ c. search needs)
-    (λ c κs. search needs)
-    (λ c. search needs)
-    (λ c κs. search needs)
-    (λ c. search needs)
-    (λ c κs. search needs)
-    (λ c. search needs)
-    returns)
+    (λ c. search needs) (λ c κs. search needs) (λ c. search needs) (λ c κs. search needs) (λ c. search needs) (λ c κs. search needs)
+    (λ c. search needs) returns)

@@ -6,11 +6,10 @@ use Rattle.layout.proofs.Layouts.{link-in, link-out}
 use Rattle.layout.proofs.places.link_to.Statement.{statement}
 use Rattle.layout.proofs.places.link_to.Tie as tie
 
-returns : tie.Need-returns
-returns c = sym (link-in _ _ (c .before .if1 .taken))
-
-returns-2 : tie.Need-returns-2
-returns-2 c = sym (link-out _ _ (omega arith))
-
 pub link-to-spec : {M : Type 1} → statement M
-link-to-spec = tie.close (tie.spec (λ c. search needs) (λ c. search needs) (λ c. search needs) returns returns-2)
+link-to-spec =
+    tie.close
+    (tie.spec
+    (λ c. search needs) (λ c. search needs) (λ c. search needs)
+    (λ c. sym (link-in _ _ (c .before .if1 .taken)))
+    (λ c. sym (link-out _ _ (omega arith))))

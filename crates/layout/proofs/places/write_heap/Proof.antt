@@ -6,8 +6,8 @@ use borrow.Author.Needs.{needs}
 use lib.Seq.{sets}
 use lib.ListN.{length}
 use Rattle.words.specs.Word.{flat}
-use Rattle.layout.specs.Layout.{laidAreas}
 use Rattle.words.proofs.Parts.{flat-none, flat-more, flat-whole}
+use Rattle.layout.specs.Layout.{laidAreas}
 use Rattle.layout.proofs.Layouts.{laid-chunk, laid-long}
 use Rattle.layout.proofs.places.write_heap.Statement.{statement}
 use Rattle.layout.proofs.places.write_heap.Tie as tie
@@ -19,37 +19,25 @@ abbrev μ-loop : tie.MeasureT-loop
 μ-loop heap₀ g n i₀ heap i = g .count - i
 
 loop-holds : tie.Need-loop-holds Inv-loop μ-loop
-loop-holds c = let s = c .before in (omega arith, refl, flat-none (s .args .g .chunk) (laid-chunk (s .args .g)) (laid-long (s .args .g) (s .pre .0)) _)
-
-write-chunk-requires : tie.Need-write-chunk-requires Inv-loop μ-loop
-write-chunk-requires c κs = search needs
-
-add-i : tie.Need-add-i Inv-loop μ-loop
-add-i c = search needs
-
-loop-less : tie.Need-loop-less Inv-loop μ-loop
-loop-less c = search needs
+loop-holds c = let s = c .before in let g = s .args .g in (omega arith, refl, flat-none (g .chunk) (laid-chunk g) (laid-long g (s .pre .0)) _)
 
 loop-again : tie.Need-loop-again Inv-loop μ-loop
-loop-again c = let l = c .before .before .before .before .before in let s = l .before .before in (search needs, search needs, flat-more (s .args .g .chunk) (laid-chunk (s .args .g)) (laid-long (s .args .g) (s .pre .0)) _ _ (l .loop .inv .2) (c .before .before .write-chunk .ensures))
-
-same-length : tie.Need-same-length Inv-loop μ-loop
-same-length c = search needs
+loop-again c =
+    let l = c .before .before .before .before .before in
+    let s = l .before .before in
+    let g = s .args .g in
+    (search needs, search needs, flat-more (g .chunk) (laid-chunk g) (laid-long g (s .pre .0)) _ _ (l .loop .inv .2) (c .before .before .write-chunk .ensures))
 
 returns : tie.Need-returns Inv-loop μ-loop
 unfolding laidAreas
-returns c = let s = c .before .before .before in flat-whole (s .args .g .chunk) (laid-chunk (s .args .g)) (laid-long (s .args .g) (s .pre .0)) _ (c .before .loop .i) _ (s .pre .1) (c .before .loop .inv .2) (omega arith)
+returns c =
+    let s = c .before .before .before in
+    let g = s .args .g in
+    let l = c .before .loop in
+    flat-whole (g .chunk) (laid-chunk g) (laid-long g (s .pre .0)) _ (l .i) _ (s .pre .1) (l .inv .2) (omega arith)
 
 pub write-heap-spec : {M : Type 1} → statement M
 write-heap-spec =
     tie.close
     (tie.spec
-    Inv-loop
-    μ-loop
-    loop-holds
-    write-chunk-requires
-    add-i
-    loop-less
-    loop-again
-    same-length
-    returns)
+    Inv-loop μ-loop loop-holds (λ c κs. search needs) (λ c. search needs) (λ c. search needs) loop-again (λ c. search needs) returns)

@@ -11,21 +11,11 @@ latest-of-requires c κs =
     let o = logged-known _ _ _ _ _ (sym (c .before .before .before .open-with-log .ensures) ∙ c .before .opened2 .given .1) in
     (record { law = o .0 .opens .law; heapLong = refl; recordsLong = o .0 .opens .recordsLong }, o .1)
 
-returns : tie.Need-returns
-unfolding latestOf
-returns c = rw (← c .before .before .before .open-with-log .ensures, c .before .opened .given .1)
-
-returns-2 : tie.Need-returns-2
-unfolding latestOf
-returns-2 c = rw (← c .before .before .before .before .open-with-log .ensures, c .before .before .opened2 .given .1) (c .latest-of .ensures)
-
 pub find-latest-spec : {M : Type 1} → statement M
+unfolding latestOf
 find-latest-spec =
     tie.close
     (tie.spec
-    (λ c κs. search needs)
-    (λ c. search needs)
-    (λ c. search needs)
-    latest-of-requires
-    returns
-    returns-2)
+    (λ c κs. search needs) (λ c. search needs) (λ c. search needs) latest-of-requires
+    (λ c. rw (← c .before .before .before .open-with-log .ensures, c .before .opened .given .1))
+    (λ c. rw (← c .before .before .before .before .open-with-log .ensures, c .before .before .opened2 .given .1) (c .latest-of .ensures)))

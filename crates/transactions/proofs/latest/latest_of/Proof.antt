@@ -7,34 +7,23 @@ use Rattle.verdicts.proofs.Pairs.{own-below}
 use Rattle.transactions.proofs.latest.latest_of.Statement.{statement}
 use Rattle.transactions.proofs.latest.latest_of.Tie as tie
 
-enum-told : tie.Need-enum-told
-enum-told c = search needs
-
 latest-owned-requires : tie.Need-latest-owned-requires
 latest-owned-requires c κs =
     let p = c .before .before .before .before .before .before .before .before .pre in
     (p .0, (own-below _ _ _ _ (sym (c .before .before .before .own-of .ensures) ∙ c .before .own .given .1), p .1))
 
-returns : tie.Need-returns
-unfolding indexedLatest
-returns c = rw (lt-ltb _ _ (c .before .before .before .if1 .taken), ← c .before .before .own-of .ensures, c .enum-told .given .1)
-
 returns-2 : tie.Need-returns-2
 unfolding indexedLatest
-returns-2 c = rw (lt-ltb _ _ (c .before .before .before .before .before .if1 .taken), ← c .before .before .before .before .own-of .ensures, c .before .before .own .given .1) (c .latest-owned .ensures)
-
-returns-3 : tie.Need-returns-3
-unfolding indexedLatest
-returns-3 c = rw (le-ltb _ _ (c .if1 .left))
+returns-2 c =
+    let o = c .before .before .before .before in
+    rw (lt-ltb _ _ (o .before .if1 .taken), ← o .own-of .ensures, c .before .before .own .given .1) (c .latest-owned .ensures)
 
 pub latest-of-spec : {M : Type 1} → statement M
+unfolding indexedLatest
 latest-of-spec =
     tie.close
     (tie.spec
-    (λ c κs. search needs)
-    enum-told
-    (λ c. search needs)
-    latest-owned-requires
-    returns
+    (λ c κs. search needs) (λ c. search needs) (λ c. search needs) latest-owned-requires
+    (λ c. rw (lt-ltb _ _ (c .before .before .before .if1 .taken), ← c .before .before .own-of .ensures, c .enum-told .given .1))
     returns-2
-    returns-3)
+    (λ c. rw (le-ltb _ _ (c .if1 .left))))
