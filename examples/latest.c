@@ -32,9 +32,13 @@ int main(int argc, char **argv)
     size_t length = fread(image, 1, sizeof image, stdin);
 
     /* The sheet says how long heap and records are; all that follows them is the log. */
-    size_t n = number(image + 34, 2), chunk = number(image + 29, 2);
-    size_t heap_length = n * chunk, records_length = n * CG_RECORD_LENGTH;
-    if (length < CG_SHEET_LENGTH || length - CG_SHEET_LENGTH < heap_length + records_length) {
+    uint32_t lengths[2];
+    uint64_t answer = cg_area_lengths(
+        image, length < CG_SHEET_LENGTH ? length : CG_SHEET_LENGTH, lengths, 2);
+    if (cg_refusal(answer))
+        return refused(answer);
+    size_t heap_length = lengths[0], records_length = lengths[1];
+    if (length - CG_SHEET_LENGTH < heap_length + records_length) {
         printf("the image ends early\n");
         return 1;
     }
@@ -42,8 +46,8 @@ int main(int argc, char **argv)
                   *log = records + records_length;
     size_t log_length = length - CG_SHEET_LENGTH - heap_length - records_length;
 
-    uint64_t answer = cg_inspect(image, CG_SHEET_LENGTH, heap, heap_length, records,
-                                 records_length, rows, 3 * CG_BUFFERS_MOST);
+    answer = cg_inspect(image, CG_SHEET_LENGTH, heap, heap_length, records, records_length,
+                        rows, 3 * CG_BUFFERS_MOST);
     if (cg_refusal(answer))
         return refused(answer);
     for (uint32_t i = 0; i < cg_value(answer); i++) {

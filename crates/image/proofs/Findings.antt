@@ -17,7 +17,8 @@ use Rattle.verdicts.specs.Chain.{Chain, occ}
 use Rattle.verdicts.specs.Pairing.{ofMark, OwnIf, Paired}
 use Rattle.verdicts.specs.Judge.{judged, marked, metBy, imageChain, verdictOf}
 use Rattle.opening.specs.Sheet.{Lawful, Open, openedOf, openedWithLog}
-use Rattle.image.specs.Inspect.{findingOf, filled, inspectOf, Inspection, foundBy, started, Ready, Begins, numbersOf, rowsOf, tableOf, surveyed, Surveying, surveyOf}
+use Rattle.image.specs.Inspect.{findingOf, filled, inspectOf, Inspection, foundBy, started, Ready, Begins}
+use Rattle.image.specs.Inspect.{numbersOf, rowsOf, tableOf, surveyed, Surveying, surveyOf}
 use Rattle.opening.specs.declared.sheet.Sheet.{Sheet}
 use Rattle.verdicts.specs.declared.chain.Ending.{Ending}
 use Rattle.verdicts.specs.declared.chain.Ending.the-variants as ending

@@ -25,7 +25,8 @@ use Rattle.area.proofs.Places.{address-one, place-found}
 use Rattle.ledger.specs.Ledger.{Loan, Call, allocate, free, store, put, fresh, laidOver, World, opened, step, run}
 use Rattle.ledger.proofs.Counts.{put-same, put-other, range}
 use Rattle.ledger.proofs.State.{Laid, outs, Holds, chunk-some}
-use Rattle.ledger.proofs.Calls.{hold, taken-below, taken-in, allocate-unlawful, allocate-none, allocate-some, free-done, free-other, free-in, free-stray, store-done, store-past, store-in, store-stray}
+use Rattle.ledger.proofs.Calls.{hold, taken-below, taken-in, allocate-unlawful, allocate-none, allocate-some}
+use Rattle.ledger.proofs.Calls.{free-done, free-other, free-in, free-stray, store-done, store-past, store-in, store-stray}
 use Rattle.ledger.proofs.Keeps.{granted-holds, freed-holds, stored-holds}
 use Rattle.ledger.proofs.Start.{laid-holds}
 

@@ -177,7 +177,8 @@ module _ (g : Sheet) (laid : Laid g) where
 
     -- ---- allocate
 
-    pub allocate-unlawful : (q : Grant) (uptime thread : ℕ) → lawfulSize (g .size) q ≡ false → allocateOf a q uptime thread ≡ refusedWith (answer.Refused BadSize) a
+    pub allocate-unlawful : (q : Grant) (uptime thread : ℕ) → lawfulSize (g .size) q ≡ false
+        → allocateOf a q uptime thread ≡ refusedWith (answer.Refused BadSize) a
     unfolding allocateOf allocatePlan takenOf
     allocate-unlawful q uptime thread e = rw (opens g laid v, e)
 

@@ -257,14 +257,16 @@ module _ (size a : ℕ) (few : size ≤ 4096) (word : a < 4294967296) where
 filled-front : (size a r1 k : ℕ) → k ≤ size
     → part (chunkOf (repeated size grantFill) redzone r1 (tagOf a state.Allocated .t0) (tagOf a state.Allocated .t1)) 0 k ≡ repeated k grantFill
 filled-front size a r1 k h =
-    buffer-part (repeated size grantFill) redzone r1 (tagOf a state.Allocated .t0) (tagOf a state.Allocated .t1) k (omega (arith, length-repeated size grantFill))
+    buffer-part (repeated size grantFill) redzone r1 (tagOf a state.Allocated .t0) (tagOf a state.Allocated .t1) k
+    (omega (arith, length-repeated size grantFill))
     ∙ part-repeated size k grantFill h
 
 granted-front : (size a : ℕ) (q : Grant) → lawfulSize size q ≡ true → part (grantedChunk size a q) 0 (grantSize size q) ≡ repeated (grantSize size q) grantFill
 unfolding grantedChunk
 granted-front size a grant.Whole l = filled-front size a redzone size (omega arith)
 granted-front size a (grant.Sized s) l =
-    part-before (guard ∷ []) (chunkOf (repeated size grantFill) redzone (codeOf s) (tagOf a state.Allocated .t0) (tagOf a state.Allocated .t1)) s 0 s (omega arith)
+    part-before (guard ∷ []) (chunkOf (repeated size grantFill) redzone (codeOf s) (tagOf a state.Allocated .t0) (tagOf a state.Allocated .t1))
+    s 0 s (omega arith)
     ∙ filled-front size a (codeOf s) s (lawful-within size s (grant.Sized s) refl l .1)
 
 pub fresh-chunk : (size a : ℕ) (q : Grant) → lawfulSize size q ≡ true → grantedChunk size a q ≡ chunkFor size a (some (fresh size q))

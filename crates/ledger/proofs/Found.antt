@@ -94,7 +94,8 @@ module _ (g : Sheet) (laid : Laid g) {head : ℕ} {a : Areas} {out : ℕ → Opt
   unfolding verdictOf judged
   verdict-is i h =
       rw (own-is i h, chain-is, v .chunks i h)
-      (owned-for (g .size) (recordAddress g i) (laid .law .sizes .most) (record-fits g laid i h) (out (bufferAddress g i)) (v .loans i h) (occ i chain) (v .each i h))
+      (owned-for (g .size) (recordAddress g i) (laid .law .sizes .most) (record-fits g laid i h)
+      (out (bufferAddress g i)) (v .loans i h) (occ i chain) (v .each i h))
 
 granted-one : (q : Grant) → allocatedOne (asGranted q) ≡ 1
 granted-one grant.Whole = refl

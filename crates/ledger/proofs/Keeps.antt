@@ -78,7 +78,8 @@ whole-chunk c l s i j e ne =
 
 module _ (g : Sheet) (laid : Laid g) where
   -- a chunk that is written whole
-  same-chunk : (c l : List ℕ) (j : ℕ) → length c ≡ g .size + 16 → length l ≡ g .count * g .chunk → j < g .count → part (sets l (j * g .chunk) c) (j * g .chunk) (g .chunk) ≡ c
+  same-chunk : (c l : List ℕ) (j : ℕ) → length c ≡ g .size + 16 → length l ≡ g .count * g .chunk → j < g .count
+      → part (sets l (j * g .chunk) c) (j * g .chunk) (g .chunk) ≡ c
   same-chunk c l j e el h =
       part-written l c (j * g .chunk) (g .chunk) (omega (arith, laid .law .sizes .chunks)) (omega (arith, chunk-inside g (laid .law) j h))
 
@@ -116,7 +117,8 @@ module _ (g : Sheet) (laid : Laid g) where
         stray = λ x e. stray-put (g .heap) (g .chunk) (g .count) j (chunk-some g laid) new out x h e ∙ v .stray x e;
       }
 
-  pub freed-holds : {head : ℕ} {a : Areas} {out : ℕ → Option Loan} {chain : List ℕ} (j : ℕ) (o : Loan) (uptime thread : ℕ) → Holds g head a out chain → j < g .count
+  pub freed-holds : {head : ℕ} {a : Areas} {out : ℕ → Option Loan} {chain : List ℕ} (j : ℕ) (o : Loan) (uptime thread : ℕ)
+      → Holds g head a out chain → j < g .count
       → out (bufferAddress g j) ≡ some o
       → Holds g (recordAddress g j) (freedAreas a uptime thread (hold g laid head j (o .grant))) (put (bufferAddress g j) none out) (j ∷ chain)
   unfolding freedAreas Linked
@@ -129,7 +131,8 @@ module _ (g : Sheet) (laid : Laid g) where
       let gone : occ j chain ≡ 0 = omega (arith, v .each j h, ap outs e) in
       let leads : nextWord r j ≡ head
       = stamped-word before j uptime thread j 0 (omega arith)
-      ∙ next-same (a .records) j head (head-fits g laid (nextWord (a .records)) head chain (v .linked)) (omega (arith, v .recordsLong, record-inside g (laid .law) j h)) in
+      ∙ next-same (a .records) j head (head-fits g laid (nextWord (a .records)) head chain (v .linked))
+      (omega (arith, v .recordsLong, record-inside g (laid .law) j h)) in
       let kept : Linked (nextWord r) (g .records) (g .count) head chain
       = linked-same (nextWord (a .records)) (nextWord r) (g .records) (g .count) head chain
       (λ i m. sym

@@ -127,7 +127,8 @@ accepted a cache heap records size n e =
     three (eqb (length (a .sheet)) 48) (lawful (laidSheet cache heap records size n))
     (lengthsRight (laidSheet cache heap records size n) (length (a .heap)) (length (a .records))) a (laidSheet cache heap records size n) e
 
-pub laid-known : (cache heap records size n : ℕ) → cache < 4294967296 → lawful (laidSheet cache heap records size n) ≡ true → Laid (laidSheet cache heap records size n)
+pub laid-known : (cache heap records size n : ℕ) → cache < 4294967296 → lawful (laidSheet cache heap records size n) ≡ true
+    → Laid (laidSheet cache heap records size n)
 laid-known cache heap records size n h e = record {
   law = lawful-known (laidSheet cache heap records size n) e;
   passed = e;

@@ -124,7 +124,8 @@ module _ (g : Sheet) (laid : Laid g) where
         count = f .books
             ∙ ap (λ (x : ℕ). w .ledger .frees + x)
             (sym
-            (found-count (verdictOf (headed g (f .head)) (w .areas .heap) (w .areas .records)) (λ i. out (bufferAddress g i)) (g .count) (verdict-is g laid v)));
+            (found-count (verdictOf (headed g (f .head)) (w .areas .heap) (w .areas .records)) (λ i. out (bufferAddress g i)) (g .count)
+            (verdict-is g laid v)));
         ends = ap (λ (c : Chain). c .ending) (chain-is g laid v);
         meets = λ i h. (i, (own-is g laid v i h, times v i h));
         onlyThose = only-those v;

@@ -65,7 +65,8 @@ unfolding lengthsOf areasOf
 lengths-known s h r e = go (shaped s) (lawful (sheetOf s)) refl e
   where
     go : (a b : Bool) → lawful (sheetOf s) ≡ b
-        → pick a (pick b (lengths.Areas (heapLength (sheetOf s)) (recordsLength (sheetOf s))) (lengths.Refused BadNumber)) (lengths.Refused BadSheet) ≡ lengths.Areas h r
+        → pick a (pick b (lengths.Areas (heapLength (sheetOf s)) (recordsLength (sheetOf s))) (lengths.Refused BadNumber)) (lengths.Refused BadSheet)
+        ≡ lengths.Areas h r
         → (h ≤ 65536) × (r ≤ 49152)
     go true true q f =
         let l = lawful-known (sheetOf s) q in

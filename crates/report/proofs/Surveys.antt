@@ -42,11 +42,15 @@ pub rows-text : (g : Sheet) (heap records rows : List ℕ) → g .count * 3 ≤ 
 unfolding textOf reportText
 rows-text g heap records rows room =
     let r = sets rows 0 (tableOf g heap records) in
-    let number : (i : ℕ) → i < g .count → rowNumber r i ≡ verdictNumber (verdictOf g heap records i) = (λ i h. at i 1 ∙ finding g heap records rows room i h 1 (omega arith)) in
-    let value : (i : ℕ) → i < g .count → rowValue r i ≡ verdictValue (verdictOf g heap records i) = (λ i h. at i 2 ∙ finding g heap records rows room i h 2 (omega arith)) in
-    let lines = flat-same (λ i. lineOf i (rowNumber r i) (rowValue r i)) (λ i. lineOf i (verdictNumber (verdictOf g heap records i)) (verdictValue (verdictOf g heap records i))) (g .count)
+    let number : (i : ℕ) → i < g .count → rowNumber r i ≡ verdictNumber (verdictOf g heap records i)
+    = (λ i h. at i 1 ∙ finding g heap records rows room i h 1 (omega arith)) in
+    let value : (i : ℕ) → i < g .count → rowValue r i ≡ verdictValue (verdictOf g heap records i)
+    = (λ i h. at i 2 ∙ finding g heap records rows room i h 2 (omega arith)) in
+    let lines = flat-same (λ i. lineOf i (rowNumber r i) (rowValue r i))
+    (λ i. lineOf i (verdictNumber (verdictOf g heap records i)) (verdictValue (verdictOf g heap records i))) (g .count)
     (λ i h. rw (number i h, value i h)) in
-    let faults = total-same (λ i. faultOf (rowNumber r i)) (λ i. faultOf (verdictNumber (verdictOf g heap records i))) (g .count) (λ i h. ap faultOf (number i h)) in
+    let faults = total-same (λ i. faultOf (rowNumber r i)) (λ i. faultOf (verdictNumber (verdictOf g heap records i))) (g .count)
+    (λ i h. ap faultOf (number i h)) in
     rw (lines, faults)
   where
     at : (i k : ℕ) → getD (sets rows 0 (tableOf g heap records)) (3 * i + k) 0 ≡ getD (sets rows 0 (tableOf g heap records)) (i * 3 + k) 0
