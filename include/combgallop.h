@@ -56,8 +56,8 @@ enum {
     CG_RECORDS_MOST = 49152, /* 512 records */
     CG_LOG_MOST = 16384,     /* 1,024 rows */
     /*
-     * An output of this length has room for every report: that no report is longer is
-     * proved. The longest that the rules allow is far shorter, 8,639 bytes: 14 for the
+     * An output of this length has room for every report: that no text is longer is
+     * proved of the function that writes it. The longest that the rules allow is far shorter, 8,639 bytes: 14 for the
      * first line; for 512 buffers 8,594, which is `I fault V OFFSET` with offsets of three
      * digits (512 buffers have at most 112 bytes each); 20 for `chain 512 again 511`; 11
      * for `faults 512`.
