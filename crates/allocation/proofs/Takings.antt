@@ -17,11 +17,11 @@ use Rattle.area.specs.Place.{placeOf}
 use Rattle.area.specs.Record.{recordSize, addressWord}
 use Rattle.area.proofs.Places.{place-found}
 use Rattle.area.proofs.Placed.{by-place}
-use Rattle.opening.specs.Areas.{Areas, byLengths, chunkAt}
-use Rattle.opening.specs.Sheet.{Open, openedOf}
-use Rattle.opening.specs.declared.sheet.Sheet.{Sheet}
-use Rattle.opening.proofs.Opens.{opened-known, by-opened}
-use Rattle.opening.proofs.Sheets.{chunk-inside, chunk-small}
+use Rattle.sheet.specs.Areas.{Areas, byLengths, chunkAt}
+use Rattle.sheet.specs.Opening.{Open, openedOf}
+use Rattle.sheet.specs.declared.geometry.Sheet.{Sheet}
+use Rattle.sheet.proofs.Opens.{opened-known, by-opened}
+use Rattle.sheet.proofs.Sheets.{chunk-inside, chunk-small}
 use Rattle.allocation.specs.Allocate.{takenBy, takenChunk, takenHead, takenOf, allocatePlan, Takes}
 use Rattle.allocation.specs.declared.allocate.Spot.{Spot}
 use Rattle.allocation.specs.declared.allocate.AllocatePlan.{AllocatePlan}
@@ -52,8 +52,8 @@ taken-if a q =
     let o = opened-known (a .sheet) (length (a .heap)) (length (a .records)) g e in
     by-test P (lawfulSize (g .size) q)
     (λ l. by-test P (eqb (g .head) 0) (λ t. tt)
-    (λ t. by-place P (placeOf (g .records) recordSize (g .count) (g .head))
-    (λ j f. by-place P (placeOf (g .heap) (g .chunk) (g .count) (addressWord (a .records) j))
+    (λ t. by-place P (placeOf (g .«record_base») recordSize (g .count) (g .head))
+    (λ j f. by-place P (placeOf (g .«heap_base») (g .chunk) (g .count) (addressWord (a .records) j))
     (λ i h.
     let p : Spot = record { sheet = g; buffer = i; own = j } in
     let c = chunkAt g (a .heap) i in

@@ -3,20 +3,21 @@ ghost use mathlib.Core.Path.{_≡_};
 ghost use Prim.Native.Nat.{_*_, _<_};
 ghost use lib.ListN.{length};
 ghost use Rattle.chunks.specs.Chunk.{lawfulSize};
-ghost use Rattle.opening.specs.Areas.{lent, before, after, byLengths, result};
-ghost use Rattle.opening.specs.Sheet.{Lawful, Open};
+ghost use Rattle.sheet.specs.Areas.{lent, before, after, byLengths, result};
+ghost use Rattle.sheet.specs.Limits.{Lawful};
+ghost use Rattle.sheet.specs.Opening.{Open};
 ghost use Rattle.allocation.specs.Allocate.{ifFree, takenChunk, takenHead, takenOf, allocatePlan, Takes, grantedAreas, allocateOf};
 use area::place;
 use area::place::Place;
 use area::record;
-use area::refusal::Answer;
-use area::refusal::Refusal;
+use tags::refusal::Answer;
+use tags::refusal::Refusal;
 use chunks::chunk;
 use chunks::chunk::Grant;
 use chunks::judge;
-use opening::sheet;
-use opening::sheet::Opened;
-use opening::sheet::Sheet;
+use sheet::opening;
+use sheet::opening::Opened;
+use sheet::geometry::Sheet;
 use tags::tag::Pattern;
 use tags::verdict;
 use tags::verdict::Verdict;
@@ -84,15 +85,15 @@ fn take_head(heap: &[u8], records: &[u8], g: Sheet) -> AllocatePlan
     requires { ⌜ Open (length (now heap)) (length (now records)) g ⌝ }
     ensures { λ r. ⌜ r ≡ takenHead g (now (heap .entry)) (now (records .entry)) ⌝ }
 {
-    let head = place::find(g.records, record::SIZE, g.count, g.head);
+    let head = place::find(g.record_base, record::SIZE, g.count, g.head);
     match head {
         Place::Nowhere => AllocatePlan::Refused(Refusal::BrokenHead),
         Place::At(j) => {
             let buffer = place::find(
-                g.heap,
+                g.heap_base,
                 g.chunk,
                 g.count,
-                record::read(records, g.records, j, record::BUFFER),
+                record::read(records, g.record_base, j, record::BUFFER),
             );
             match buffer {
                 Place::Nowhere => AllocatePlan::Refused(Refusal::Damage(Verdict::NotOneRecord)),
@@ -131,10 +132,10 @@ fn take(heap: &[u8], records: &[u8], g: Sheet, grant: Grant) -> AllocatePlan
 fn plan(sheet: &[u8], heap: &[u8], records: &[u8], grant: Grant) -> AllocatePlan
     ensures { λ r. ⌜ r ≡ allocatePlan (before sheet heap records) grant ⌝ }
 {
-    let opened = sheet::open(sheet, heap.len(), records.len());
+    let opened = opening::open(sheet, heap.len(), records.len());
     match opened {
         Opened::Refused(why) => AllocatePlan::Refused(why),
-        Opened::Image(g) => take(heap, records, g, grant),
+        Opened::Sheet(g) => take(heap, records, g, grant),
     }
 }
 
@@ -155,10 +156,10 @@ fn commit(
     let g = p.sheet;
     let at = p.buffer * g.chunk;
     let end = at + g.chunk;
-    let next = record::read(records, g.records, p.own, record::NEXT);
+    let next = record::read(records, g.record_base, p.own, record::NEXT);
     chunk::write_granted(&mut heap[at..end], g.head, grant);
     record::stamp(records, p.own, uptime, thread);
-    word::write_u32(sheet, sheet::HEAD, next);
+    word::write_u32(sheet, fields::HEAD, next);
 }
 
 // Grants a buffer and answers its address, or refuses and leaves every byte as it was.
@@ -179,7 +180,7 @@ pub fn allocate(
         AllocatePlan::Take(p) => {
             commit(sheet, heap, records, grant, p, uptime, thread);
             let g = p.sheet;
-            Answer::Value(g.heap + (p.buffer * g.chunk) as u32)
+            Answer::Value(g.heap_base + (p.buffer * g.chunk) as u32)
         }
     }
 }

@@ -1,8 +1,7 @@
 -- Which place of an area an address is. Assumes nothing.
-use mathlib.Core.Bool.{_&&_}
+use mathlib.Core.Bool.{_&&_, cond}
 use Prim.Native.Nat.{ℕ, zero, suc, _+_, _*_}
 use lib.Dec.{eqb, ltb}
-use Rattle.words.specs.Run.{pick}
 use Rattle.area.specs.declared.place.Place.{Place}
 use Rattle.area.specs.declared.place.Place.the-variants.{At, Nowhere}
 
@@ -13,9 +12,9 @@ placeAddress base stride i = base + i * stride
 -- A7 (whose address a word is): the place, of the first n, whose address is the word w; a place of no bytes has no address of its own
 unfoldable pub placeOf : ℕ → ℕ → ℕ → ℕ → Place
 placeOf base stride zero w = Nowhere
-placeOf base stride (suc i) w = pick (eqb w (placeAddress base stride i) && ltb 0 stride) (At i) (placeOf base stride i w)
+placeOf base stride (suc i) w = cond (eqb w (placeAddress base stride i) && ltb 0 stride) (At i) (placeOf base stride i w)
 
 -- by the place that a word is the address of
-abbrev pub placed : {A : Type 0} → Place → (ℕ → A) → A → A
-placed (At i) f none = f i
-placed Nowhere f none = none
+abbrev pub byPlace : {A : Type 0} → Place → (ℕ → A) → A → A
+byPlace (At i) f none = f i
+byPlace Nowhere f none = none

@@ -1,8 +1,10 @@
--- The words of a record. Assumes nothing.
+-- The format of a record. Assumes nothing.
 use mathlib.Core.List.{List, _++_}
-use Prim.Native.Nat.{ℕ, _+_, _*_}
+use Prim.Native.Nat.{ℕ, _+_, _-_, _*_}
+use lib.ListN.{replicate}
 use lib.Seq.{sets}
 use Rattle.words.specs.Word.{bytesOf, numberAt}
+use Rattle.area.specs.declared.record.Stamp.{Stamp}
 
 -- A2 (a record has 96 bytes), A3 (the offsets of its words)
 abbrev pub recordSize : ℕ
@@ -35,7 +37,23 @@ nextWord records j = recordWord records j nextAt
 abbrev pub addressWord : List ℕ → ℕ → ℕ
 addressWord records j = recordWord records j bufferAt
 
+-- A3 (the timestamp of record j, its high half and its low half)
+abbrev pub stampHigh : List ℕ → ℕ → ℕ
+stampHigh records j = recordWord records j stampHighAt
+
+abbrev pub stampLow : List ℕ → ℕ → ℕ
+stampLow records j = recordWord records j stampLowAt
+
+-- K7 (the next word), in record j
+unfoldable pub withNext : List ℕ → ℕ → ℕ → List ℕ
+withNext records j next = sets records (j * recordSize + nextAt) (bytesOf 4 next)
+
 -- K8 (the stamp: timestamp and thread), in record j
-unfoldable pub stamped : List ℕ → ℕ → ℕ → ℕ → List ℕ
-stamped records j uptime thread =
-    sets (sets records (j * recordSize + stampHighAt) (bytesOf 4 0 ++ bytesOf 4 uptime)) (j * recordSize + threadAt) (bytesOf 4 thread)
+unfoldable pub stamped : List ℕ → ℕ → Stamp → List ℕ
+stamped records j s =
+    sets (sets records (j * recordSize + stampHighAt) (bytesOf 4 0 ++ bytesOf 4 (s .uptime))) (j * recordSize + threadAt) (bytesOf 4 (s .thread))
+
+-- K4 (the bytes of a record that is laid out): next at 0, buffer address 4, slab 8, cache 12, and 0 up to its end
+unfoldable pub recordBytes : ℕ → ℕ → ℕ → List ℕ
+recordBytes next buffer cache =
+    bytesOf 4 next ++ bytesOf 4 buffer ++ bytesOf 4 0 ++ bytesOf 4 cache ++ replicate (recordSize - stampHighAt) 0

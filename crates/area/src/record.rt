@@ -1,11 +1,13 @@
-// The words of a record: next at 0, the buffer's address at 4, the slab at 8, the cache at 12, the stamp's high half at 16
-// and its low half at 20, the thread at 24.
+// The format of a record: next at 0, the buffer's address at 4, the slab at 8, the cache at 12, the stamp's high half at 16 and its
+// low half at 20, the thread at 24; the rest is not read.
 ghost use mathlib.Core.Path.{_≡_};
 ghost use Prim.Native.Nat.{_+_, _-_, _*_, _≤_};
 ghost use lib.ListN.{length};
+ghost use lib.Seq.{sets};
 ghost use Rattle.words.specs.Word.{numberAt};
-ghost use Rattle.area.specs.Record.{recordSize, recordWord, stamped};
+ghost use Rattle.area.specs.Record.{recordSize, recordWord, withNext, stamped, recordBytes};
 use window::Word;
+use words::run;
 use words::word;
 
 pub const SIZE: usize = 96;
@@ -14,15 +16,21 @@ pub const NEXT: usize = 0;
 
 pub const BUFFER: usize = 4;
 
-pub const SLAB: usize = 8;
+const SLAB: usize = 8;
 
-pub const CACHE: usize = 12;
+const CACHE: usize = 12;
 
 pub const STAMP_HIGH: usize = 16;
 
 pub const STAMP_LOW: usize = 20;
 
-pub const THREAD: usize = 24;
+const THREAD: usize = 24;
+
+// What a call leaves in the record that it changes: when it was made, and by which thread.
+pub struct Stamp {
+    pub uptime: u32,
+    pub thread: u32,
+}
 
 // The word at an address, read through the window of the records, which stand from `base` on. It lies whole inside, so that it
 // is a word, and the other case does not arise.
@@ -48,13 +56,35 @@ pub fn read(records: &[u8], base: u32, j: usize, offset: usize) -> u32
     read_at(records, base, base + (j * SIZE + offset) as u32)
 }
 
-// Writes the stamp, whose high half is 0, and the thread of record j.
-pub fn stamp(records: &mut [u8], j: usize, uptime: u32, thread: u32)
+// Writes the next word of record j.
+pub fn set_next(records: &mut [u8], j: usize, next: u32)
     requires { ⌜ j * recordSize + recordSize ≤ length (now records) ⌝ }
-    ensures { λ _. ⌜ now (records .exit) ≡ stamped (now (records .entry)) j uptime thread ⌝ }
+    ensures { λ _. ⌜ now (records .exit) ≡ withNext (now (records .entry)) j next ⌝ }
+{
+    word::write_u32(records, j * SIZE + NEXT, next);
+}
+
+// Writes the stamp, whose high half is 0, and the thread of record j.
+pub fn set_stamp(records: &mut [u8], j: usize, s: Stamp)
+    requires { ⌜ j * recordSize + recordSize ≤ length (now records) ⌝ }
+    ensures { λ _. ⌜ now (records .exit) ≡ stamped (now (records .entry)) j s ⌝ }
 {
     let at = j * SIZE;
     word::write_u32(records, at + STAMP_HIGH, 0);
-    word::write_u32(records, at + STAMP_LOW, uptime);
-    word::write_u32(records, at + THREAD, thread);
+    word::write_u32(records, at + STAMP_LOW, s.uptime);
+    word::write_u32(records, at + THREAD, s.thread);
+}
+
+// Writes record j whole: its next word, the address of its buffer and the cache, and 0 elsewhere.
+pub fn write(records: &mut [u8], j: usize, next: u32, buffer: u32, cache: u32)
+    requires { ⌜ j * recordSize + recordSize ≤ length (now records) ⌝ }
+    ensures { λ _. ⌜ now (records .exit)
+        ≡ sets (now (records .entry)) (j * recordSize) (recordBytes next buffer cache) ⌝ }
+{
+    let at = j * SIZE;
+    word::write_u32(records, at + NEXT, next);
+    word::write_u32(records, at + BUFFER, buffer);
+    word::write_u32(records, at + SLAB, 0);
+    word::write_u32(records, at + CACHE, cache);
+    run::fill(records, at + STAMP_HIGH, SIZE - STAMP_HIGH, 0);
 }

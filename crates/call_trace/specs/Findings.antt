@@ -3,7 +3,7 @@ use mathlib.Core.List.{List}
 use Prim.Native.Nat.{ℕ}
 use lib.ListN.{getD, replicate}
 use Rattle.tags.specs.declared.verdict.Verdict.the-variants.{Whole}
-use Rattle.opening.specs.Areas.{Areas}
+use Rattle.sheet.specs.Areas.{Areas}
 use Rattle.image.specs.Inspect.{inspectOf}
 use Rattle.image.specs.declared.inspect.Finding.{Finding}
 use Rattle.call_trace.specs.declared.findings.Seen.{Seen}

@@ -2,7 +2,7 @@
 use crate::findings;
 use crate::lines;
 use allocation::allocate;
-use area::refusal::Answer;
+use tags::refusal::Answer;
 use chunks::chunk::Grant;
 use holding::free;
 use holding::show;

@@ -2,9 +2,9 @@
 // is seen to stay.
 ghost use mathlib.Core.Path.{_≡_};
 ghost use Prim.Native.Nat.{_<_};
-ghost use Rattle.opening.specs.Areas.{before};
+ghost use Rattle.sheet.specs.Areas.{before};
 ghost use Rattle.call_trace.specs.Findings.{seenOf};
-use area::refusal::Answer;
+use tags::refusal::Answer;
 use image::inspect;
 use image::inspect::Finding;
 use tags::verdict::Verdict;

@@ -1,6 +1,6 @@
 // The words and numbers of a line, on standard output.
-use area::refusal;
-use area::refusal::Refusal;
+use tags::refusal;
+use tags::refusal::Refusal;
 use libc::STDOUT_FILENO;
 
 // Writes a word.

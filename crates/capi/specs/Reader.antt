@@ -2,16 +2,16 @@
 use mathlib.Core.List.{List, [], _∷_}
 use Prim.Native.Nat.{ℕ}
 use lib.Seq.{sets}
-use Rattle.area.specs.declared.refusal.Answer.{Answer}
-use Rattle.area.specs.declared.refusal.Answer.the-variants.{Refused}
-use Rattle.area.specs.Refusal.{done}
-use Rattle.area.specs.declared.refusal.Refusal.the-variants.{ShortOutput}
-use Rattle.opening.specs.Sheet.{lengthsOf}
-use Rattle.opening.specs.declared.sheet.Lengths.{Lengths}
-use Rattle.opening.specs.declared.sheet.Lengths.the-variants as lengths
+use Rattle.tags.specs.declared.refusal.Answer.{Answer}
+use Rattle.tags.specs.declared.refusal.Answer.the-variants.{Refused}
+use Rattle.tags.specs.Refusal.{done}
+use Rattle.tags.specs.declared.refusal.Refusal.the-variants.{ShortOutput}
+use Rattle.sheet.specs.Opening.{lengthsOf}
+use Rattle.sheet.specs.declared.opening.Lengths.{Lengths}
+use Rattle.sheet.specs.declared.opening.Lengths.the-variants as lengths
 use Rattle.image.specs.Numbers.{Numbered, numbering}
 use Rattle.capi.specs.Answer.{answerWord}
-use Rattle.area.specs.Filling.{Filling, filling, unfilled, ifRoom}
+use Rattle.tags.specs.Filling.{Filling, filling, unfilled, ifRoom}
 
 -- F4 (two numbers): the heap's length and then the record area's, in a row with room for both
 abbrev pub lengthsIn : List ℕ → Lengths → Filling Answer ℕ

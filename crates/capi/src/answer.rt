@@ -1,9 +1,9 @@
 // The one number that every function returns.
 ghost use mathlib.Core.Path.{_≡_};
 ghost use Rattle.capi.specs.Answer.{acceptedWord, refusedWord, answerWord};
-use area::refusal;
-use area::refusal::Answer;
-use area::refusal::Refusal;
+use tags::refusal;
+use tags::refusal::Answer;
+use tags::refusal::Refusal;
 
 // What an accepted call returns.
 pub(crate) fn accepted(value: u32) -> u64

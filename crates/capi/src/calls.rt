@@ -1,11 +1,11 @@
 // The calls that a client makes.
 ghost use mathlib.Core.Path.{_≡_};
-ghost use Rattle.opening.specs.Areas.{before, after, result, answered};
+ghost use Rattle.sheet.specs.Areas.{before, after, result, answered};
 ghost use Rattle.layout.specs.Layout.{layOutOf};
 ghost use Rattle.allocation.specs.Allocate.{allocateOf};
 ghost use Rattle.holding.specs.Free.{freeOf};
 ghost use Rattle.holding.specs.Store.{storeOf};
-ghost use Rattle.opening.specs.Sheet.{sheetOf};
+ghost use Rattle.sheet.specs.Fields.{sheetOf};
 ghost use Rattle.holding.specs.Show.{shownOf, StartsAt};
 ghost use Rattle.capi.specs.Answer.{grantOf, answerWord, showWord};
 use crate::answer;

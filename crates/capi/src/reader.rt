@@ -1,8 +1,8 @@
 // What is read off an image.
 ghost use mathlib.Core.Path.{_≡_};
 ghost use lib.ListN.{length};
-ghost use Rattle.area.specs.Filling.{filling, told};
-ghost use Rattle.opening.specs.Areas.{before};
+ghost use Rattle.tags.specs.Filling.{filling, told};
+ghost use Rattle.sheet.specs.Areas.{before};
 ghost use Rattle.image.specs.Inspect.{tabulateOf};
 ghost use Rattle.image.specs.Numbers.{numbering, surveyNumbersOf};
 ghost use Rattle.transactions.specs.Latest.{latestOf};
@@ -12,11 +12,11 @@ ghost use Rattle.capi.specs.Reader.{areaLengthsOf, surveyWord};
 use crate::answer::accepted;
 use crate::answer::refused;
 use crate::answer::word;
-use area::refusal::Refusal;
+use tags::refusal::Refusal;
 use image::inspect;
 use image::numbers;
-use opening::sheet;
-use opening::sheet::Lengths;
+use sheet::opening;
+use sheet::opening::Lengths;
 use report::answer;
 use transactions::latest;
 use transactions::latest::Transaction;
@@ -27,7 +27,7 @@ pub extern "C" fn cg_area_lengths(sheet: &[u8], lengths: &mut [u32]) -> u64
     ensures { λ r. ⌜ filling r (now (lengths .exit))
         ≡ told answerWord (areaLengthsOf (now (sheet .entry)) (now (lengths .entry))) ⌝ }
 {
-    let asked = sheet::area_lengths(sheet);
+    let asked = opening::area_lengths(sheet);
     match asked {
         Lengths::Refused(why) => refused(why),
         Lengths::Areas(heap, records) => {

@@ -1,6 +1,6 @@
 -- The laws of chunks, and what the steps of the code come to. Assumes nothing.
 use mathlib.Core.Path.{_≡_, refl, ap, _∙_}
-use mathlib.Core.Bool.{Bool, true, false, and-eq-true-iff}
+use mathlib.Core.Bool.{Bool, true, false, and-eq-true-iff, cond}
 use mathlib.Core.List.{List, _++_}
 use Prim.Native.Nat.{ℕ, _+_, _≤_}
 use native.Mathlib.Omega.{arith}
@@ -9,7 +9,7 @@ use lib.Dec.{eqb, leb}
 use lib.ListN.{length, getD, length-append, length-set}
 use lib.Seq.{sets}
 use Rattle.words.specs.Word.{part, bytesOf}
-use Rattle.words.specs.Run.{pick, repeated, difference}
+use Rattle.words.specs.Run.{repeated, difference}
 use Rattle.words.specs.declared.run.Difference.{Difference}
 use Rattle.words.specs.declared.run.Difference.the-variants.{At, Nowhere}
 use Rattle.words.proofs.Numbers.{length-bytesOf}
@@ -18,12 +18,12 @@ use Rattle.words.proofs.Runs.{length-repeated, repeated-once}
 use Rattle.tags.specs.SizeCode.{decodedOf}
 use Rattle.tags.proofs.Tags.{decoded-within}
 use Rattle.chunks.specs.Chunk.{redzone, guard, bufferSize, chunkOf, freeChunk, grantedChunk, lawfulSize, grantSize}
-use Rattle.chunks.specs.Judge.{ifDiffers, r1Of, ofCode, zoneAfter, zoneVerdict, sizedVerdict, allocatedVerdict}
+use Rattle.chunks.specs.Judge.{byDifference, r1Of, byDecoded, zoneAfter, zoneVerdict, sizedVerdict, allocatedVerdict}
 use Rattle.tags.specs.declared.size_code.Decoded.{Decoded}
 use Rattle.tags.specs.declared.size_code.Decoded.the-variants.{Size, Bad}
 use Rattle.chunks.specs.declared.chunk.Grant.{Grant}
 use Rattle.tags.specs.declared.verdict.Verdict.{Verdict}
-use Rattle.tags.specs.declared.verdict.Verdict.the-variants.{Whole, Allocated, Overrun}
+use Rattle.tags.specs.declared.verdict.Verdict.the-variants.{Whole, Allocated, Overrun, BadSizeCode}
 use Rattle.chunks.specs.declared.chunk.Grant.the-variants as grant
 
 -- ---- a chunk is written
@@ -89,7 +89,7 @@ zone-within : (c zone : List ℕ) (v : Verdict) (s : ℕ) → zoneVerdict c zone
 unfolding zoneVerdict
 zone-within c zone v s e = go (difference (part c (bufferSize c) 4) zone) e
   where
-    go : (d : Difference) → ifDiffers d (λ o. Overrun (bufferSize c + o)) v ≡ Allocated s → v ≡ Allocated s
+    go : (d : Difference) → byDifference d (λ o. Overrun (bufferSize c + o)) v ≡ Allocated s → v ≡ Allocated s
     go (At o) f = absurd (let z : _≡_ {A = ℕ} 0 1 = cc in omega arith)
     go Nowhere f = f
 
@@ -97,13 +97,13 @@ pub allocated-within : (c : List ℕ) (s : ℕ) → allocatedVerdict c ≡ Alloc
 unfolding allocatedVerdict sizedVerdict
 allocated-within c s e = go (eqb (r1Of c) redzone) (decodedOf (r1Of c) (bufferSize c)) refl e
   where
-    sized : (k : ℕ) (b : Bool) → pick b (zoneVerdict c (zoneAfter k (bufferSize c)) (Allocated k)) (Overrun k) ≡ Allocated s → k ≡ s
+    sized : (k : ℕ) (b : Bool) → cond b (zoneVerdict c (zoneAfter k (bufferSize c)) (Allocated k)) (Overrun k) ≡ Allocated s → k ≡ s
     sized k true f = let z = zone-within c (zoneAfter k (bufferSize c)) (Allocated k) s f in cc
     sized k false f = absurd (let z : _≡_ {A = ℕ} 0 1 = cc in omega arith)
 
     go : (b : Bool) (d : Decoded) → decodedOf (r1Of c) (bufferSize c) ≡ d
-        → pick b (zoneVerdict c (bytesOf 4 redzone) Whole) (ofCode d (λ k.
-        pick (eqb (getD c k 0) guard) (zoneVerdict c (zoneAfter k (bufferSize c)) (Allocated k)) (Overrun k))) ≡ Allocated s
+        → cond b (zoneVerdict c (bytesOf 4 redzone) Whole) (byDecoded d (λ k.
+        cond (eqb (getD c k 0) guard) (zoneVerdict c (zoneAfter k (bufferSize c)) (Allocated k)) (Overrun k)) BadSizeCode) ≡ Allocated s
         → (1 ≤ s) × (s ≤ bufferSize c)
     go true d q f = absurd (let w = zone-within c (bytesOf 4 redzone) Whole s f in let z : _≡_ {A = ℕ} 0 1 = cc in omega arith)
     go false (Size k) q f = let z : k ≡ s = sized k (eqb (getD c k 0) guard) f in decoded-within (r1Of c) (bufferSize c) s (q ∙ ap Size z)

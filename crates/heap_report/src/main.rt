@@ -2,14 +2,14 @@
 // It reads no more than decides the answer: a sheet that is refused ends it, and of the log one byte more than is lawful.
 ghost use Prim.Native.Nat.{_≤_};
 ghost use lib.ListN.{length};
-use area::refusal::Answer;
-use area::refusal::Refusal;
+use tags::refusal::Answer;
+use tags::refusal::Refusal;
 use libc::STDIN_FILENO;
 use libc::STDOUT_FILENO;
 use lines::text;
 use lines::text::Written;
-use opening::sheet;
-use opening::sheet::Lengths;
+use sheet::opening;
+use sheet::opening::Lengths;
 use report::answer;
 
 // Writes the first n bytes of a text to standard output.
@@ -71,7 +71,7 @@ fn read_areas(sheet: &[u8], heap_len: usize, records_len: usize)
 
 // Reads on behind a sheet, unless the sheet alone decides.
 fn read_on(sheet: &[u8]) {
-    let areas = sheet::area_lengths(sheet);
+    let areas = opening::area_lengths(sheet);
     match areas {
         Lengths::Areas(h, r) => read_areas(sheet, h, r),
         Lengths::Refused(_) => tell(sheet, &sheet[0..0], &sheet[0..0], &sheet[0..0]),

@@ -21,15 +21,17 @@ use Rattle.chunks.specs.declared.chunk.Grant.{Grant}
 use Rattle.chunks.specs.declared.chunk.Grant.the-variants as grant
 use Rattle.chunks.proofs.Chunks.{allocated-within, grant-within, within-lawful}
 use Rattle.area.specs.Place.{placeOf}
-use Rattle.area.specs.declared.refusal.Refusal.the-variants.{PastClient}
+use Rattle.tags.specs.declared.refusal.Refusal.the-variants.{PastClient}
 use Rattle.area.specs.Record.{recordSize, addressWord}
 use Rattle.area.proofs.Places.{place-found}
 use Rattle.area.proofs.Placed.{by-place}
-use Rattle.opening.specs.Areas.{Areas, Ready, byLengths, bufferAddress, chunkAt}
-use Rattle.opening.specs.Sheet.{sheetOf, openedOf}
-use Rattle.opening.specs.declared.sheet.Sheet.{Sheet}
-use Rattle.opening.proofs.Opens.{opened-known, by-opened}
-use Rattle.opening.proofs.Sheets.{chunk-inside, chunk-small, record-inside, record-small, record-word}
+use Rattle.sheet.specs.Areas.{Areas, Within, byLengths, chunkAt}
+use Rattle.sheet.specs.Geometry.{bufferAddress}
+use Rattle.sheet.specs.Fields.{sheetOf}
+use Rattle.sheet.specs.Opening.{openedOf}
+use Rattle.sheet.specs.declared.geometry.Sheet.{Sheet}
+use Rattle.sheet.proofs.Opens.{opened-known, by-opened}
+use Rattle.sheet.proofs.Sheets.{chunk-inside, chunk-small, record-inside, record-small, record-word}
 use Rattle.holding.specs.Holding.{heldAs, heldBy, heldChunk, heldAt, heldOf, Holds, clientAt}
 use Rattle.holding.specs.Free.{sameGrant, freedBy, freePlan}
 use Rattle.holding.specs.Store.{storedBy, storePlan}
@@ -78,11 +80,11 @@ held-if a address =
     by-opened P (openedOf (a .sheet) (length (a .heap)) (length (a .records)))
     (λ g e.
     let o = opened-known (a .sheet) (length (a .heap)) (length (a .records)) g e in
-    by-place P (placeOf (g .heap) (g .chunk) (g .count) address)
+    by-place P (placeOf (g .«heap_base») (g .chunk) (g .count) address)
     (λ i f.
     let c = chunkAt g (a .heap) i in
     let at = place-found _ _ _ _ _ f in
-    by-place P (placeOf (g .records) recordSize (g .count) (tagAt c .t0))
+    by-place P (placeOf (g .«record_base») recordSize (g .count) (tagAt c .t0))
     (λ j h. by-test P (eqb (addressWord (a .records) j) address)
     (λ t. held-by-if a address g i j
     (λ q l. record {
@@ -155,9 +157,9 @@ pub record Lies (h r : ℕ) (g : Sheet) (i j : ℕ) : Type 0 where
   pub small : i * g .chunk + g .chunk ≤ 65536
   pub slot : j * recordSize + recordSize ≤ r
   pub little : j * recordSize + recordSize ≤ 49152
-  pub word : g .records + j * recordSize + recordSize ≤ 4294967296
+  pub word : g .«record_base» + j * recordSize + recordSize ≤ 4294967296
 
-pub ready-lies : (s h r : ℕ) (g : Sheet) (i j : ℕ) → Ready s h r g i j → Lies h r g i j
+pub ready-lies : (s h r : ℕ) (g : Sheet) (i j : ℕ) → Within s h r g i j → Lies h r g i j
 ready-lies s h r g i j k =
     let law = k .opened .law in
     let a = chunk-inside g law i (k .buffer) in
@@ -194,7 +196,7 @@ pub record Shows (a : Areas) (address at len : ℕ) : Type 0 where
 shows-held : (a : Areas) (address : ℕ) (p : Holding) → HeldAt a address p → Shows a address (clientAt p) (grantSize (p .sheet .size) (p .grant))
 shows-held a address p k =
     let c = client-inside _ _ _ p (k .holds) in
-    record { inside = c .inside; few = c .few; starts = subst (λ (g : Sheet). g .heap + clientAt p ≡ address) (k .same) (sym (k .starts)) }
+    record { inside = c .inside; few = c .few; starts = subst (λ (g : Sheet). g .«heap_base» + clientAt p ≡ address) (k .same) (sym (k .starts)) }
 
 pub shown-known : (a : Areas) (address at len : ℕ) → shownOf a address ≡ shown.Client at len → Shows a address at len
 unfolding shownOf

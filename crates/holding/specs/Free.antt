@@ -1,20 +1,21 @@
 -- Free. Assumes nothing.
-use mathlib.Core.Bool.{Bool, true, false}
+use mathlib.Core.Bool.{Bool, true, false, cond}
 use Prim.Native.Nat.{ℕ, _+_, _*_}
 use lib.Dec.{eqb}
 use lib.Seq.{sets}
 use Rattle.words.specs.Word.{bytesOf}
-use Rattle.words.specs.Run.{pick}
 use Rattle.chunks.specs.Chunk.{freeChunk}
 use Rattle.chunks.specs.declared.chunk.Grant.{Grant}
 use Rattle.chunks.specs.declared.chunk.Grant.the-variants.{Whole, Sized}
-use Rattle.opening.specs.Areas.{Areas, Result, result, refusedWith, withHead, recordAddress}
+use Rattle.sheet.specs.Areas.{Areas, Result, result, refusedWith}
+use Rattle.sheet.specs.Fields.{withHead}
+use Rattle.sheet.specs.Geometry.{recordAddress}
 use Rattle.area.specs.Record.{stamped, recordSize, nextAt}
 use Rattle.holding.specs.Holding.{heldOf, clientAt}
-use Rattle.area.specs.declared.refusal.Refusal.the-variants.{OtherGrant}
-use Rattle.area.specs.declared.refusal.Answer.{Answer}
-use Rattle.area.specs.declared.refusal.Answer.the-variants.{Refused}
-use Rattle.area.specs.Refusal.{done}
+use Rattle.tags.specs.declared.refusal.Refusal.the-variants.{OtherGrant}
+use Rattle.tags.specs.declared.refusal.Answer.{Answer}
+use Rattle.tags.specs.declared.refusal.Answer.the-variants.{Refused}
+use Rattle.tags.specs.Refusal.{done}
 use Rattle.holding.specs.declared.holding.Holding.{Holding}
 use Rattle.holding.specs.declared.holding.Held.{Held}
 use Rattle.holding.specs.declared.holding.Held.the-variants as held
@@ -28,7 +29,7 @@ sameGrant (Sized s) (Sized t) = eqb s t
 
 -- X9 (the grant that is named is not the one found), E6
 abbrev pub freedBy : Held → Grant → Held
-freedBy (held.Buffer h) q = pick (sameGrant (h .grant) q) (held.Buffer h) (held.Refused OtherGrant)
+freedBy (held.Buffer h) q = cond (sameGrant (h .grant) q) (held.Buffer h) (held.Refused OtherGrant)
 freedBy (held.Refused why) q = held.Refused why
 
 unfoldable pub freePlan : Areas → ℕ → Grant → Held

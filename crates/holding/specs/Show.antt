@@ -5,7 +5,7 @@ use Prim.Native.Nat.{ℕ, _+_}
 use denote.Ref.{RefT}
 use Rattle.words.specs.Word.{part}
 use Rattle.chunks.specs.Chunk.{grantSize}
-use Rattle.opening.specs.Areas.{Areas, PartAt}
+use Rattle.sheet.specs.Areas.{Areas, PartAt}
 use Rattle.holding.specs.Holding.{heldOf, clientAt}
 use Rattle.holding.specs.declared.holding.Held.{Held}
 use Rattle.holding.specs.declared.holding.Held.the-variants as held

@@ -1,24 +1,24 @@
 -- Store. Assumes nothing.
+use mathlib.Core.Bool.{cond}
 use mathlib.Core.List.{List}
 use Prim.Native.Nat.{ℕ, _+_}
 use lib.Dec.{leb}
 use lib.ListN.{length}
 use lib.Seq.{sets}
-use Rattle.words.specs.Run.{pick}
 use Rattle.chunks.specs.Chunk.{grantSize}
-use Rattle.opening.specs.Areas.{Areas, Result, result, refusedWith}
+use Rattle.sheet.specs.Areas.{Areas, Result, result, refusedWith}
 use Rattle.holding.specs.Holding.{heldOf, clientAt}
-use Rattle.area.specs.declared.refusal.Refusal.the-variants.{PastClient}
-use Rattle.area.specs.declared.refusal.Answer.{Answer}
-use Rattle.area.specs.declared.refusal.Answer.the-variants.{Refused}
-use Rattle.area.specs.Refusal.{done}
+use Rattle.tags.specs.declared.refusal.Refusal.the-variants.{PastClient}
+use Rattle.tags.specs.declared.refusal.Answer.{Answer}
+use Rattle.tags.specs.declared.refusal.Answer.the-variants.{Refused}
+use Rattle.tags.specs.Refusal.{done}
 use Rattle.holding.specs.declared.holding.Holding.{Holding}
 use Rattle.holding.specs.declared.holding.Held.{Held}
 use Rattle.holding.specs.declared.holding.Held.the-variants as held
 
 -- X10 (offset plus length is more than the client's bytes), E9 (an empty store)
 abbrev pub storedBy : Held → ℕ → ℕ → Held
-storedBy (held.Buffer h) offset len = pick (leb (offset + len) (grantSize (h .sheet .size) (h .grant))) (held.Buffer h) (held.Refused PastClient)
+storedBy (held.Buffer h) offset len = cond (leb (offset + len) (grantSize (h .sheet .size) (h .grant))) (held.Buffer h) (held.Refused PastClient)
 storedBy (held.Refused why) offset len = held.Refused why
 
 unfoldable pub storePlan : Areas → ℕ → ℕ → ℕ → Held

@@ -1,17 +1,17 @@
 // Free: a plan that only reads, and a commit that cannot fail.
 ghost use mathlib.Core.Path.{_≡_};
-ghost use Rattle.opening.specs.Areas.{lent, before, after, byLengths, result};
+ghost use Rattle.sheet.specs.Areas.{lent, before, after, byLengths, result};
 ghost use Rattle.holding.specs.Holding.{Holds};
 ghost use Rattle.holding.specs.Free.{sameGrant, freePlan, freedAreas, freeOf};
 use crate::holding;
 use crate::holding::Held;
 use crate::holding::Holding;
 use area::record;
-use area::refusal::Answer;
-use area::refusal::Refusal;
+use tags::refusal::Answer;
+use tags::refusal::Refusal;
 use chunks::chunk;
 use chunks::chunk::Grant;
-use opening::sheet;
+use sheet::opening;
 use words::word;
 
 // Whether two grants are the same size, or whole both.
@@ -63,11 +63,11 @@ fn commit(
     let at = p.buffer * g.chunk;
     let end = at + g.chunk;
     let slot = p.own * record::SIZE;
-    let record_at = g.records + slot as u32;
+    let record_at = g.record_base + slot as u32;
     chunk::write_free(&mut heap[at..end], record_at);
     word::write_u32(records, slot + record::NEXT, g.head);
     record::stamp(records, p.own, uptime, thread);
-    word::write_u32(sheet, sheet::HEAD, record_at);
+    word::write_u32(sheet, fields::HEAD, record_at);
 }
 
 // Frees the buffer at an address, or refuses and leaves every byte as it was.

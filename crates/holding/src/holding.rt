@@ -4,19 +4,19 @@ ghost use Prim.Native.Nat.{_*_, _<_};
 ghost use lib.ListN.{length};
 ghost use Rattle.tags.specs.Tag.{patternOf};
 ghost use Rattle.chunks.specs.Chunk.{ChunkLength, tagAt, grantSize};
-ghost use Rattle.opening.specs.Areas.{before};
-ghost use Rattle.opening.specs.Sheet.{Open};
+ghost use Rattle.sheet.specs.Areas.{before};
+ghost use Rattle.sheet.specs.Opening.{Open};
 ghost use Rattle.holding.specs.Holding.{heldAs, heldBy, heldChunk, heldAt, heldOf};
 use area::place;
 use area::place::Place;
 use area::record;
-use area::refusal::Refusal;
+use tags::refusal::Refusal;
 use chunks::chunk;
 use chunks::chunk::Grant;
 use chunks::judge;
-use opening::sheet;
-use opening::sheet::Opened;
-use opening::sheet::Sheet;
+use sheet::opening;
+use sheet::opening::Opened;
+use sheet::geometry::Sheet;
 use tags::tag::Pattern;
 use tags::verdict;
 use tags::verdict::Verdict;
@@ -80,11 +80,11 @@ fn held_chunk(chunk: &[u8], records: &[u8], g: Sheet, address: u32, i: usize) ->
     ensures { λ r. ⌜ r ≡ heldChunk g (now (chunk .entry)) (now (records .entry)) address i ⌝ }
 {
     let tag = chunk::read_tag(chunk);
-    let p = place::find(g.records, record::SIZE, g.count, tag.t0);
+    let p = place::find(g.record_base, record::SIZE, g.count, tag.t0);
     match p {
         Place::Nowhere => Held::Refused(Refusal::Damage(Verdict::BadTag)),
         Place::At(j) => {
-            if record::read(records, g.records, j, record::BUFFER) == address {
+            if record::read(records, g.record_base, j, record::BUFFER) == address {
                 return held_by(chunk, g, i, j);
             }
             Held::Refused(Refusal::Damage(Verdict::BadTag))
@@ -97,7 +97,7 @@ fn held_at(heap: &[u8], records: &[u8], g: Sheet, address: u32) -> Held
     requires { ⌜ Open (length (now heap)) (length (now records)) g ⌝ }
     ensures { λ r. ⌜ r ≡ heldAt g (now (heap .entry)) (now (records .entry)) address ⌝ }
 {
-    let p = place::find(g.heap, g.chunk, g.count, address);
+    let p = place::find(g.heap_base, g.chunk, g.count, address);
     match p {
         Place::Nowhere => Held::Refused(Refusal::NoSuchBuffer),
         Place::At(i) => {
@@ -112,10 +112,10 @@ fn held_at(heap: &[u8], records: &[u8], g: Sheet, address: u32) -> Held
 pub(crate) fn hold(sheet: &[u8], heap: &[u8], records: &[u8], address: u32) -> Held
     ensures { λ r. ⌜ r ≡ heldOf (before sheet heap records) address ⌝ }
 {
-    let opened = sheet::open(sheet, heap.len(), records.len());
+    let opened = opening::open(sheet, heap.len(), records.len());
     match opened {
         Opened::Refused(why) => Held::Refused(why),
-        Opened::Image(g) => held_at(heap, records, g, address),
+        Opened::Sheet(g) => held_at(heap, records, g, address),
     }
 }
 

@@ -1,10 +1,10 @@
 // Show: the client's own bytes, as a part of the heap.
 ghost use mathlib.Core.Path.{_≡_};
-ghost use Rattle.opening.specs.Areas.{before};
+ghost use Rattle.sheet.specs.Areas.{before};
 ghost use Rattle.holding.specs.Show.{shownOf, shownPart, ShownPlace};
 use crate::holding;
 use crate::holding::Held;
-use area::refusal::Refusal;
+use tags::refusal::Refusal;
 
 // Where the client's bytes start in the heap, and how many they are; or why they are not shown.
 pub enum Shown {

@@ -1,12 +1,12 @@
 // Store: a plan that only reads, and a commit that cannot fail.
 ghost use mathlib.Core.Path.{_≡_};
 ghost use Prim.Native.Nat.{_+_, _*_};
-ghost use Rattle.opening.specs.Areas.{before, after, result};
+ghost use Rattle.sheet.specs.Areas.{before, after, result};
 ghost use Rattle.holding.specs.Store.{storePlan, storeOf};
 use crate::holding;
 use crate::holding::Held;
-use area::refusal::Answer;
-use area::refusal::Refusal;
+use tags::refusal::Answer;
+use tags::refusal::Refusal;
 use words::run;
 
 // The buffer that a store of so many bytes at an offset writes to, or why it does not.

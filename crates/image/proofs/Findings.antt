@@ -16,18 +16,19 @@ use Rattle.verdicts.specs.Walk.{marksOf, mark}
 use Rattle.verdicts.specs.Chain.{Chain, occ}
 use Rattle.verdicts.specs.Pairing.{ofMark, OwnIf, Paired}
 use Rattle.verdicts.specs.Judge.{judged, marked, metBy, imageChain, verdictOf}
-use Rattle.opening.specs.Sheet.{Lawful, Open, openedOf, openedWithLog}
+use Rattle.sheet.specs.Limits.{Lawful}
+use Rattle.sheet.specs.Opening.{Open, openedOf, openedWithLog}
 use Rattle.image.specs.Inspect.{findingOf, filled, inspectOf, Inspection, foundBy, started, Ready, Begins}
 use Rattle.image.specs.Inspect.{numbersOf, rowsOf, tableOf, surveyed, Surveying, surveyOf}
-use Rattle.opening.specs.declared.sheet.Sheet.{Sheet}
-use Rattle.verdicts.specs.declared.chain.Ending.{Ending}
-use Rattle.verdicts.specs.declared.chain.Ending.the-variants as ending
-use Rattle.opening.specs.declared.sheet.Opened.the-variants.{Image}
-use Rattle.area.specs.declared.refusal.Refusal.{Refusal}
-use Rattle.area.specs.declared.refusal.Answer.the-variants.{Refused}
-use Rattle.area.specs.Filling.{filling}
-use Rattle.opening.specs.Areas.{Areas}
-use Rattle.opening.proofs.Opens.{opened-known, logged-known, by-opened}
+use Rattle.sheet.specs.declared.geometry.Sheet.{Sheet}
+use Rattle.tags.specs.declared.ending.Ending.{Ending}
+use Rattle.tags.specs.declared.ending.Ending.the-variants as ending
+use Rattle.sheet.specs.declared.opening.Opened.the-variants as opened
+use Rattle.tags.specs.declared.refusal.Refusal.{Refusal}
+use Rattle.tags.specs.declared.refusal.Answer.the-variants.{Refused}
+use Rattle.tags.specs.Filling.{filling}
+use Rattle.sheet.specs.Areas.{Areas}
+use Rattle.sheet.proofs.Opens.{opened-known, logged-known, by-opened}
 use Rattle.words.proofs.Tests.{by-test}
 use Rattle.image.specs.Numbers.{EndingIf}
 use Rattle.image.specs.declared.inspect.Overview.{Overview}
@@ -97,13 +98,13 @@ marked-met n c marks j e h =
 
 -- what is found by the marks is the finding
 module _ (g : Sheet) (heap records pairs marks : List ℕ) (few : g .count ≤ 512)
-    (p : Paired records (g .heap) (g .chunk) (g .count) pairs) (e : marks ≡ marksOf 512 (imageChain g records .met)) where
+    (p : Paired records (g .«heap_base») (g .chunk) (g .count) pairs) (e : marks ≡ marksOf 512 (imageChain g records .met)) where
   found-is : (i : ℕ) → i < g .count → foundBy heap (started g records) pairs marks i ≡ findingOf g heap records i
   unfolding verdictOf
   found-is i h =
       ap (λ (v : Verdict). record { index = i; verdict = v })
       (judged-same heap g i (g .count) (ofMark (getD pairs i 0)) (marked marks) (metBy (imageChain g records)) (imageChain g records .ending)
-      (paired-in records (g .heap) (g .chunk) (g .count) pairs p i h)
+      (paired-in records (g .«heap_base») (g .chunk) (g .count) pairs p i h)
       (λ j l. marked-met 512 (imageChain g records) marks j e (omega arith))
       ∙ ap (λ (o : Own). judged heap g i o (metBy (imageChain g records)) (imageChain g records .ending)) (p i h))
 
@@ -115,8 +116,8 @@ module _ (g : Sheet) (heap records pairs marks : List ℕ) (few : g .count ≤ 5
 
 -- what is noted of an open image is what its buffers are judged by
 pub ready : (h : ℕ) (g : Sheet) (records pairs : List ℕ) → Open h (length records) g
-    → Paired records (g .heap) (g .chunk) (g .count) pairs → Ready h (started g records) pairs
-ready h g records pairs o p = record { law = o .law; long = o .heapLong; all = refl; paired = paired-in records (g .heap) (g .chunk) (g .count) pairs p }
+    → Paired records (g .«heap_base») (g .chunk) (g .count) pairs → Ready h (started g records) pairs
+ready h g records pairs o p = record { law = o .law; long = o .heapLong; all = refl; paired = paired-in records (g .«heap_base») (g .chunk) (g .count) pairs p }
 
 -- an inspection that is refused
 pub begins-refused : (a : Areas) (m : ℕ) (b : Begun) (why : Refusal) → b .start .count ≡ 0 → b .start .answer ≡ Refused why
@@ -128,8 +129,8 @@ begins-refused a m b why c r h = record {
 }
 
 -- an inspection of an open image
-pub begins-image : (a : Areas) (m : ℕ) (g : Sheet) (b : Begun) → openedOf (a .sheet) (length (a .heap)) (length (a .records)) ≡ Image g
-    → g .count ≤ m → b .start ≡ started g (a .records) → Paired (a .records) (g .heap) (g .chunk) (g .count) (b .pairs)
+pub begins-image : (a : Areas) (m : ℕ) (g : Sheet) (b : Begun) → openedOf (a .sheet) (length (a .heap)) (length (a .records)) ≡ opened.Sheet g
+    → g .count ≤ m → b .start ≡ started g (a .records) → Paired (a .records) (g .«heap_base») (g .chunk) (g .count) (b .pairs)
     → b .marks ≡ marksOf 512 (imageChain g (a .records) .met) → Begins a m b
 unfolding inspectOf
 begins-image a m g b opened small st p e = record {
@@ -157,12 +158,12 @@ begins-image a m g b opened small st p e = record {
 ending-small : (g : Sheet) (records : List ℕ) (e : Ending) → imageChain g records .ending ≡ e → g .count ≤ 512 → EndingIf 512 e
 ending-small g records ending.End q few = tt
 ending-small g records ending.Broken q few = tt
-ending-small g records (ending.Again i) q few = let h = chain-again-below records (g .records) (g .count) (g .head) i q in omega arith
+ending-small g records (ending.Again i) q few = let h = chain-again-below records (g .«record_base») (g .count) (g .head) i q in omega arith
 
 pub chain-small : (g : Sheet) (records : List ℕ) → Lawful g → (length (imageChain g records .met) ≤ 512) × EndingIf 512 (imageChain g records .ending)
 chain-small g records law =
     let few = law .sizes .few in
-    let short = chain-short records (g .records) (g .count) (g .head) in
+    let short = chain-short records (g .«record_base») (g .count) (g .head) in
     (omega arith, ending-small g records (imageChain g records .ending) refl few)
 
 -- a survey that is not refused counts few buffers

@@ -7,22 +7,24 @@ use lib.Seq.{sets}
 use Rattle.words.specs.Word.{flat}
 use Rattle.tags.specs.Verdict.{verdictNumber, verdictValue}
 use Rattle.tags.specs.declared.verdict.Verdict.{Verdict}
-use Rattle.opening.specs.Sheet.{Lawful, heapLength, openedOf, openedWithLog, onOpened}
+use Rattle.sheet.specs.Limits.{Lawful}
+use Rattle.sheet.specs.Geometry.{heapLength}
+use Rattle.sheet.specs.Opening.{openedOf, openedWithLog, byOpened}
 use Rattle.verdicts.specs.Pairing.{ofMark, PairedIn}
 use Rattle.verdicts.specs.Judge.{judged, marked, verdictOf, imageChain}
-use Rattle.opening.specs.declared.sheet.Sheet.{Sheet}
-use Rattle.verdicts.specs.declared.chain.Ending.{Ending}
-use Rattle.area.specs.declared.refusal.Refusal.the-variants.{ShortOutput}
+use Rattle.sheet.specs.declared.geometry.Sheet.{Sheet}
+use Rattle.tags.specs.declared.ending.Ending.{Ending}
+use Rattle.tags.specs.declared.refusal.Refusal.the-variants.{ShortOutput}
 use Rattle.image.specs.declared.inspect.Finding.{Finding}
 use Rattle.image.specs.declared.inspect.Start.{Start}
 use Rattle.image.specs.declared.inspect.Begun.{Begun}
 use Rattle.image.specs.declared.inspect.Overview.{Overview}
 use Rattle.image.specs.declared.inspect.Surveyed.{Surveyed}
 use Rattle.image.specs.declared.inspect.Surveyed.the-variants as surveys
-use Rattle.area.specs.declared.refusal.Answer.{Answer}
-use Rattle.area.specs.declared.refusal.Answer.the-variants.{Value, Refused}
-use Rattle.area.specs.Filling.{Filling, filling, unfilled, ifRoom}
-use Rattle.opening.specs.Areas.{Areas}
+use Rattle.tags.specs.declared.refusal.Answer.{Answer}
+use Rattle.tags.specs.declared.refusal.Answer.the-variants.{Value, Refused}
+use Rattle.tags.specs.Filling.{Filling, filling, unfilled, ifRoom}
+use Rattle.sheet.specs.Areas.{Areas}
 
 -- K11 (index and verdict): the finding of buffer i
 abbrev pub findingOf : Sheet → List ℕ → List ℕ → ℕ → Finding
@@ -39,7 +41,7 @@ Inspection = Filling Answer Finding
 
 unfoldable pub inspectOf : Areas → List Finding → Inspection
 inspectOf a rows =
-    onOpened (openedOf (a .sheet) (length (a .heap)) (length (a .records)))
+    byOpened (openedOf (a .sheet) (length (a .heap)) (length (a .records)))
     (λ g. ifRoom (g .count) rows (filling (Value (g .count)) (filled (findingOf g (a .heap) (a .records)) rows (g .count))) (Refused ShortOutput))
     (λ why. unfilled (Refused why) rows)
 
@@ -60,7 +62,7 @@ tableOf g heap records = rowsOf (findingOf g heap records) (g .count)
 -- K12, E8: the same tests as inspect has; the need is three numbers for each buffer
 unfoldable pub tabulateOf : Areas → List ℕ → Filling Answer ℕ
 tabulateOf a rows =
-    onOpened (openedOf (a .sheet) (length (a .heap)) (length (a .records)))
+    byOpened (openedOf (a .sheet) (length (a .heap)) (length (a .records)))
     (λ g. ifRoom (g .count * 3) rows (filling (Value (g .count)) (sets rows 0 (tableOf g (a .heap) (a .records)))) (Refused ShortOutput))
     (λ why. unfilled (Refused why) rows)
 
@@ -74,7 +76,7 @@ Surveying = Filling Surveyed ℕ
 -- K12, E3 (X3 tests the log): the same rows as tabulate has, of an image with a log of l bytes
 unfoldable pub surveyOf : Areas → ℕ → List ℕ → Surveying
 surveyOf a l rows =
-    onOpened (openedWithLog (a .sheet) (length (a .heap)) (length (a .records)) l)
+    byOpened (openedWithLog (a .sheet) (length (a .heap)) (length (a .records)) l)
     (λ g. ifRoom (g .count * 3) rows (filling (surveys.Image (surveyed g (a .records))) (sets rows 0 (tableOf g (a .heap) (a .records)))) (surveys.Refused ShortOutput))
     (λ why. unfilled (surveys.Refused why) rows)
 

@@ -1,22 +1,21 @@
 -- What the report says, as numbers: three for each buffer and three for the chain. Assumes nothing.
-use mathlib.Core.Bool.{_&&_}
+use mathlib.Core.Bool.{_&&_, cond}
 use mathlib.Core.List.{List, [], _∷_}
 use Prim.Native.Nat.{ℕ, _*_, _<_}
 use lib.Dec.{leb}
 use lib.ListN.{length}
 use lib.Seq.{sets}
-use Rattle.words.specs.Run.{pick}
-use Rattle.area.specs.declared.refusal.Refusal.{Refusal}
-use Rattle.area.specs.declared.refusal.Refusal.the-variants.{ShortOutput}
-use Rattle.opening.specs.Sheet.{openedWithLog, onOpened}
-use Rattle.opening.specs.declared.sheet.Sheet.{Sheet}
+use Rattle.tags.specs.declared.refusal.Refusal.{Refusal}
+use Rattle.tags.specs.declared.refusal.Refusal.the-variants.{ShortOutput}
+use Rattle.sheet.specs.Opening.{openedWithLog, byOpened}
+use Rattle.sheet.specs.declared.geometry.Sheet.{Sheet}
 use Rattle.verdicts.specs.Judge.{imageChain}
-use Rattle.verdicts.specs.declared.chain.Ending.{Ending}
-use Rattle.verdicts.specs.declared.chain.Ending.the-variants.{End, Broken, Again}
+use Rattle.tags.specs.declared.ending.Ending.{Ending}
+use Rattle.tags.specs.declared.ending.Ending.the-variants.{End, Broken, Again}
 use Rattle.image.specs.Inspect.{tableOf}
-use Rattle.area.specs.declared.refusal.Answer.{Answer}
-use Rattle.area.specs.declared.refusal.Answer.the-variants.{Value, Refused}
-use Rattle.opening.specs.Areas.{Areas}
+use Rattle.tags.specs.declared.refusal.Answer.{Answer}
+use Rattle.tags.specs.declared.refusal.Answer.the-variants.{Value, Refused}
+use Rattle.sheet.specs.Areas.{Areas}
 
 -- K14 (how it ends)
 abbrev pub endingNumber : Ending → ℕ
@@ -60,8 +59,8 @@ unnumbered rows chain why = numbering (Refused why) rows chain
 -- E8 (X11, after E3), F5: the need is three numbers for each buffer, and three for the chain
 unfoldable pub surveyNumbersOf : Areas → ℕ → List ℕ → List ℕ → Numbered Answer
 surveyNumbersOf a l rows chain =
-    onOpened (openedWithLog (a .sheet) (length (a .heap)) (length (a .records)) l)
-    (λ g. pick (leb (g .count * 3) (length rows) && leb 3 (length chain))
+    byOpened (openedWithLog (a .sheet) (length (a .heap)) (length (a .records)) l)
+    (λ g. cond (leb (g .count * 3) (length rows) && leb 3 (length chain))
     (numbering (Value (g .count)) (sets rows 0 (tableOf g (a .heap) (a .records))) (sets chain 0 (chainOfImage g (a .records))))
     (unnumbered rows chain ShortOutput))
     (unnumbered rows chain)

@@ -4,22 +4,22 @@ ghost use mathlib.Core.Path.{_≡_};
 ghost use Prim.Native.Nat.{_+_, _*_, _≤_, _<_};
 ghost use lib.ListN.{length};
 ghost use lib.Seq.{sets};
-ghost use Rattle.area.specs.Filling.{filling};
-ghost use Rattle.opening.specs.Areas.{before};
-ghost use Rattle.opening.specs.Sheet.{Open};
+ghost use Rattle.tags.specs.Filling.{filling};
+ghost use Rattle.sheet.specs.Areas.{before};
+ghost use Rattle.sheet.specs.Opening.{Open};
 ghost use Rattle.verdicts.specs.Pairing.{Paired};
 ghost use Rattle.verdicts.specs.Walk.{marksOf};
 ghost use Rattle.verdicts.specs.Judge.{imageChain};
 ghost use Rattle.image.specs.Inspect.{inspectOf, foundBy, started, Ready, Begins, numbersOf, rowsOf, tableOf, tabulateOf, surveyOf};
-use area::refusal::Answer;
-use area::refusal::Refusal;
-use opening::sheet;
-use opening::sheet::Opened;
-use opening::sheet::Sheet;
+use tags::refusal::Answer;
+use tags::refusal::Refusal;
+use sheet::opening;
+use sheet::opening::Opened;
+use sheet::geometry::Sheet;
 use tags::verdict;
 use tags::verdict::Verdict;
 use verdicts::chain;
-use verdicts::chain::Ending;
+use tags::ending::Ending;
 use verdicts::judge;
 use verdicts::pairing;
 
@@ -91,13 +91,13 @@ fn refuse(why: Refusal) -> Begun
 fn note(records: &[u8], g: Sheet) -> Begun
     requires { ⌜ Open (g .count * g .chunk) (length (now records)) g ⌝ }
     ensures start { λ r. ⌜ r .start ≡ started g (now (records .entry)) ⌝ }
-    ensures pairs { λ r. ⌜ Paired (now (records .entry)) (g .heap) (g .chunk) (g .count) (r .pairs) ⌝ }
+    ensures pairs { λ r. ⌜ Paired (now (records .entry)) (g .«heap_base») (g .chunk) (g .count) (r .pairs) ⌝ }
     ensures marks { λ r. ⌜ r .marks ≡ marksOf 512 (imageChain g (now (records .entry)) .met) ⌝ }
 {
     let mut pairs = [0u16; 512];
-    pairing::pair(records, g.records, g.heap, g.chunk, g.count, &mut pairs);
+    pairing::pair(records, g.record_base, g.heap_base, g.chunk, g.count, &mut pairs);
     let mut marks = [0u8; 512];
-    let walked = chain::walk_from(records, g.records, g.count, g.head, &mut marks);
+    let walked = chain::walk_from(records, g.record_base, g.count, g.head, &mut marks);
     let met = walked.met;
     let ending = walked.ending;
     let start = Start {
@@ -118,10 +118,10 @@ fn note(records: &[u8], g: Sheet) -> Begun
 fn begin(sheet: &[u8], heap: &[u8], records: &[u8], rows: usize) -> Begun
     ensures { λ r. ⌜ Begins (before sheet heap records) rows r ⌝ }
 {
-    let opened = sheet::open(sheet, heap.len(), records.len());
+    let opened = opening::open(sheet, heap.len(), records.len());
     match opened {
         Opened::Refused(why) => refuse(why),
-        Opened::Image(g) => {
+        Opened::Sheet(g) => {
             if rows < g.count {
                 return refuse(Refusal::ShortOutput);
             }
@@ -225,10 +225,10 @@ pub fn tabulate(sheet: &[u8], heap: &[u8], records: &[u8], rows: &mut [u32]) -> 
     ensures { λ r. ⌜ filling r (now (rows .exit))
         ≡ tabulateOf (before sheet heap records) (now (rows .entry)) ⌝ }
 {
-    let opened = sheet::open(sheet, heap.len(), records.len());
+    let opened = opening::open(sheet, heap.len(), records.len());
     match opened {
         Opened::Refused(why) => Answer::Refused(why),
-        Opened::Image(g) => {
+        Opened::Sheet(g) => {
             let n = g.count;
             if rows.len() < n * 3 {
                 return Answer::Refused(Refusal::ShortOutput);
@@ -244,10 +244,10 @@ pub fn survey(sheet: &[u8], heap: &[u8], records: &[u8], log: &[u8], rows: &mut 
     ensures { λ r. ⌜ filling r (now (rows .exit))
         ≡ surveyOf (before sheet heap records) (length (now (log .entry))) (now (rows .entry)) ⌝ }
 {
-    let opened = sheet::open_with_log(sheet, heap.len(), records.len(), log.len());
+    let opened = opening::open_with_log(sheet, heap.len(), records.len(), log.len());
     match opened {
         Opened::Refused(why) => Surveyed::Refused(why),
-        Opened::Image(g) => {
+        Opened::Sheet(g) => {
             let n = g.count;
             if rows.len() < n * 3 {
                 return Surveyed::Refused(Refusal::ShortOutput);

@@ -3,14 +3,14 @@ ghost use mathlib.Core.Path.{_≡_};
 ghost use Prim.Native.Nat.{_≤_};
 ghost use lib.ListN.{length};
 ghost use lib.Seq.{sets};
-ghost use Rattle.opening.specs.Areas.{before};
+ghost use Rattle.sheet.specs.Areas.{before};
 ghost use Rattle.image.specs.Numbers.{EndingIf, endingNumber, endingValue, chainNumbers, numbering, surveyNumbersOf};
 use crate::inspect;
-use area::refusal::Answer;
-use area::refusal::Refusal;
-use opening::sheet;
-use opening::sheet::Opened;
-use verdicts::chain::Ending;
+use tags::refusal::Answer;
+use tags::refusal::Refusal;
+use sheet::opening;
+use sheet::opening::Opened;
+use tags::ending::Ending;
 
 // The number of a chain's ending.
 fn ending_number(e: Ending) -> u32
@@ -61,10 +61,10 @@ pub fn survey_numbers(
         ≡ surveyNumbersOf (before sheet heap records) (length (now (log .entry)))
         (now (rows .entry)) (now (chain .entry)) ⌝ }
 {
-    let opened = sheet::open_with_log(sheet, heap.len(), records.len(), log.len());
+    let opened = opening::open_with_log(sheet, heap.len(), records.len(), log.len());
     match opened {
         Opened::Refused(why) => Answer::Refused(why),
-        Opened::Image(g) => {
+        Opened::Sheet(g) => {
             let n = g.count;
             if rows.len() < n * 3 {
                 return Answer::Refused(Refusal::ShortOutput);

@@ -13,19 +13,20 @@ use Rattle.words.proofs.Numbers.{length-bytesOf}
 use Rattle.words.proofs.Parts.{sets-next, sets-three, sets-whole}
 use Rattle.chunks.specs.Chunk.{freeChunk}
 use Rattle.chunks.proofs.Chunks.{length-freeChunk}
-use Rattle.opening.specs.Areas.{bufferAddress, recordAddress}
+use Rattle.sheet.specs.Geometry.{bufferAddress, recordAddress}
 use Rattle.area.specs.Record.{recordSize}
-use Rattle.opening.specs.Sheet.{Lawful, numbered}
-use Rattle.opening.specs.declared.sheet.Sheet.{Sheet}
-use Rattle.opening.specs.declared.sheet.Opened.the-variants as opened
-use Rattle.area.specs.declared.refusal.Answer.the-variants.{Refused}
-use Rattle.layout.specs.Layout.{linkTo, field, sheetBytes, recordBytes, layOutPlan, Planned}
-use Rattle.opening.proofs.Opens.{numbered-known}
-use Rattle.area.specs.declared.refusal.Refusal.the-variants.{BadSheet}
-use Rattle.words.specs.Run.{pick}
+use Rattle.sheet.specs.Limits.{Lawful}
+use Rattle.sheet.specs.Opening.{numbered}
+use Rattle.sheet.specs.declared.geometry.Sheet.{Sheet}
+use Rattle.sheet.specs.declared.opening.Opened.the-variants as opened
+use Rattle.tags.specs.declared.refusal.Answer.the-variants.{Refused}
+use Rattle.layout.specs.Layout.{linkTo, recordBytes, layOutPlan, Planned}
+use Rattle.sheet.specs.Fields.{field, sheetBytes}
+use Rattle.sheet.proofs.Opens.{numbered-known}
+use Rattle.tags.specs.declared.refusal.Refusal.the-variants.{BadSheet}
 use borrow.Author.Tests.{eqb-true}
 use lib.Dec.{eqb}
-use mathlib.Core.Bool.{Bool, true, false}
+use mathlib.Core.Bool.{Bool, true, false, cond}
 
 -- ---- the sheet
 
@@ -48,14 +49,14 @@ fields-run l at w i j t u v x y z ei ej =
 module _ (g : Sheet) where
   -- three fields, three more and two in a row are the sheet
   pub sheet-run : (l a b c d : List ℕ) → length l ≡ 48
-      → a ≡ sets l 0 (field 1 4 (g .cache) ++ field 2 4 (g .heap) ++ field 3 4 (g .records))
+      → a ≡ sets l 0 (field 1 4 (g .cache) ++ field 2 4 (g .«heap_base») ++ field 3 4 (g .«record_base»))
       → b ≡ sets a 21 (field 4 2 (g .size) ++ field 5 2 (g .chunk) ++ field 6 2 (g .count))
       → c ≡ sets b 36 (field 7 4 (g .head))
       → d ≡ sets c 43 (field 8 2 (g .flags))
       → d ≡ sheetBytes g
   unfolding sheetBytes bytesOf
   sheet-run l a b c d len ea eb ec ed =
-      let p = field 1 4 (g .cache) ++ field 2 4 (g .heap) ++ field 3 4 (g .records) in
+      let p = field 1 4 (g .cache) ++ field 2 4 (g .«heap_base») ++ field 3 4 (g .«record_base») in
       let q = field 4 2 (g .size) ++ field 5 2 (g .chunk) ++ field 6 2 (g .count) in
       let e = sets-three l p q (field 7 4 (g .head)) 0 21 36 refl refl ea eb ec in
       sets-next l (p ++ q ++ field 7 4 (g .head)) (field 8 2 (g .flags)) 0 43 43 e refl refl ed ∙ sets-whole l (sheetBytes g) (sym len)
@@ -111,10 +112,10 @@ module _ (g : Sheet) where
 -- ---- the plan
 
 -- what is known of numbers that pass
-pub planned-known : (g : Sheet) (s h r : ℕ) (o : Sheet) → layOutPlan g s h r ≡ opened.Image o → Planned s h r o
+pub planned-known : (g : Sheet) (s h r : ℕ) (o : Sheet) → layOutPlan g s h r ≡ opened.Sheet o → Planned s h r o
 unfolding layOutPlan
 planned-known g s h r o e = go (eqb s 48) refl e
   where
-    go : (b : Bool) → eqb s 48 ≡ b → pick b (numbered g h r) (opened.Refused BadSheet) ≡ opened.Image o → Planned s h r o
+    go : (b : Bool) → eqb s 48 ≡ b → cond b (numbered g h r) (opened.Refused BadSheet) ≡ opened.Sheet o → Planned s h r o
     go true q f = record { long = eqb-true s 48 q; opens = numbered-known g h r o f .1 }
     go false q f = absurd (let z : _≡_ {A = ℕ} 0 1 = cc in omega arith)

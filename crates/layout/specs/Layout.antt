@@ -1,25 +1,26 @@
 -- Lay out. Assumes nothing.
+use mathlib.Core.Bool.{cond}
 use mathlib.Core.Path.{_≡_}
 use mathlib.Core.List.{List, _++_}
 use Prim.Native.Nat.{ℕ, suc, _+_}
 use lib.Dec.{eqb, ltb}
 use lib.ListN.{length, replicate}
 use Rattle.words.specs.Word.{flat, bytesOf}
-use Rattle.words.specs.Run.{pick}
 use Rattle.chunks.specs.Chunk.{freeChunk}
-use Rattle.opening.specs.Areas.{Areas, Result, result, refusedWith, bufferAddress, recordAddress}
-use Rattle.opening.specs.Sheet.{numbered, onOpened, Open}
-use Rattle.opening.specs.declared.sheet.Sheet.{Sheet}
-use Rattle.opening.specs.declared.sheet.Opened.{Opened}
-use Rattle.opening.specs.declared.sheet.Opened.the-variants as opened
-use Rattle.area.specs.declared.refusal.Refusal.the-variants.{BadSheet}
-use Rattle.area.specs.declared.refusal.Answer.{Answer}
-use Rattle.area.specs.declared.refusal.Answer.the-variants.{Refused}
-use Rattle.area.specs.Refusal.{done}
+use Rattle.sheet.specs.Areas.{Areas, Result, result, refusedWith}
+use Rattle.sheet.specs.Geometry.{bufferAddress, recordAddress}
+use Rattle.sheet.specs.Opening.{numbered, byOpened, Open}
+use Rattle.sheet.specs.declared.geometry.Sheet.{Sheet}
+use Rattle.sheet.specs.declared.opening.Opened.{Opened}
+use Rattle.sheet.specs.declared.opening.Opened.the-variants as opened
+use Rattle.tags.specs.declared.refusal.Refusal.the-variants.{BadSheet}
+use Rattle.tags.specs.declared.refusal.Answer.{Answer}
+use Rattle.tags.specs.declared.refusal.Answer.the-variants.{Refused}
+use Rattle.tags.specs.Refusal.{done}
 
 -- K4 (the next words): the word that leads to record i, its address, or 0 past the last
 unfoldable pub linkTo : Sheet → ℕ → ℕ
-linkTo g i = pick (ltb i (g .count)) (recordAddress g i) 0
+linkTo g i = cond (ltb i (g .count)) (recordAddress g i) 0
 
 -- K2 (the sheet's numbers): the arguments, a chunk of buffer size plus 16, the chain from record 0, and the flags
 abbrev pub laidSheet : ℕ → ℕ → ℕ → ℕ → ℕ → Sheet
@@ -42,8 +43,8 @@ field tag len body = bytesOf 1 tag ++ bytesOf 2 len ++ bytesOf len body
 unfoldable pub sheetBytes : Sheet → List ℕ
 sheetBytes g =
     field 1 4 (g .cache)
-    ++ field 2 4 (g .heap)
-    ++ field 3 4 (g .records)
+    ++ field 2 4 (g .«heap_base»)
+    ++ field 3 4 (g .«record_base»)
     ++ field 4 2 (g .size)
     ++ field 5 2 (g .chunk)
     ++ field 6 2 (g .count)
@@ -64,12 +65,12 @@ laidAreas g = record {
 
 -- E4 (X1 by the sheet area's length alone, X2 on the arguments, X3): the sheet's numbers where they pass
 unfoldable pub layOutPlan : Sheet → ℕ → ℕ → ℕ → Opened
-layOutPlan g s h r = pick (eqb s 48) (numbered g h r) (opened.Refused BadSheet)
+layOutPlan g s h r = cond (eqb s 48) (numbered g h r) (opened.Refused BadSheet)
 
 -- K2 to K4, E1, E4 (lay out)
 unfoldable pub layOutOf : Areas → ℕ → ℕ → ℕ → ℕ → ℕ → Result Answer
 layOutOf a cache heap records size n =
-    onOpened (layOutPlan (laidSheet cache heap records size n) (length (a .sheet)) (length (a .heap)) (length (a .records)))
+    byOpened (layOutPlan (laidSheet cache heap records size n) (length (a .sheet)) (length (a .heap)) (length (a .records)))
     (λ g. result done (laidAreas g))
     (λ why. refusedWith (Refused why) a)
 

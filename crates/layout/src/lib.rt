@@ -3,13 +3,14 @@
 // The layer promises: the three areas of a lawful request are written whole, buffer i paired with record i and the chain
 // from record 0 on in order; any other request is refused, and every lent byte is as before.
 ghost use mathlib.Core.Path.{_≡_};
-ghost use Rattle.opening.specs.Areas.{lent, before, after, byLengths, result};
-ghost use Rattle.layout.specs.Layout.{laidSheet, laidAreas, layOutOf, layOutPlan, Planned};
-use area::refusal::Answer;
-use area::refusal::Refusal;
-use opening::sheet;
-use opening::sheet::Opened;
-use opening::sheet::Sheet;
+ghost use Rattle.sheet.specs.Areas.{lent, before, after, byLengths, result};
+ghost use Rattle.layout.specs.Layout.{laidAreas, layOutOf, layOutPlan, Planned};
+ghost use Rattle.sheet.specs.Geometry.{laidSheet};
+use tags::refusal::Answer;
+use tags::refusal::Refusal;
+use sheet::opening;
+use sheet::opening::Opened;
+use sheet::geometry::Sheet;
 
 // The bytes of the sheet.
 mod fields;
@@ -29,7 +30,7 @@ fn sheet_for(cache: u32, heap_base: u32, record_base: u32, size: u32, count: u32
         chunk: size as usize + 16,
         count: count as usize,
         head: record_base,
-        flags: sheet::FLAGS,
+        flags: fields::FLAGS,
     }
 }
 
@@ -37,10 +38,10 @@ fn sheet_for(cache: u32, heap_base: u32, record_base: u32, size: u32, count: u32
 fn plan(g: Sheet, sheet_len: usize, heap_len: usize, records_len: usize) -> Opened
     ensures { λ r. ⌜ r ≡ layOutPlan g «sheet_len» «heap_len» «records_len» ⌝ }
 {
-    if sheet_len != sheet::LENGTH {
+    if sheet_len != fields::LENGTH {
         return Opened::Refused(Refusal::BadSheet);
     }
-    sheet::judge_numbers(g, heap_len, records_len)
+    opening::judge_numbers(g, heap_len, records_len)
 }
 
 // Writes all three areas.
@@ -71,7 +72,7 @@ pub fn lay_out(
     let planned = plan(asked, sheet.len(), heap.len(), records.len());
     match planned {
         Opened::Refused(why) => Answer::Refused(why),
-        Opened::Image(g) => {
+        Opened::Sheet(g) => {
             commit(sheet, heap, records, g);
             Answer::Value(0)
         }

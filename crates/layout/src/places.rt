@@ -5,13 +5,14 @@ ghost use Prim.Native.Nat.{_*_, _<_};
 ghost use lib.ListN.{length};
 ghost use lib.Seq.{sets};
 ghost use Rattle.chunks.specs.Chunk.{freeChunk};
-ghost use Rattle.opening.specs.Areas.{recordAddress};
+ghost use Rattle.sheet.specs.Geometry.{recordAddress};
 ghost use Rattle.area.specs.Record.{recordSize};
-ghost use Rattle.opening.specs.Sheet.{Lawful, heapLength, recordsLength};
+ghost use Rattle.sheet.specs.Limits.{Lawful};
+ghost use Rattle.sheet.specs.Geometry.{heapLength, recordsLength};
 ghost use Rattle.layout.specs.Layout.{linkTo, recordBytes, laidAreas};
 use area::record;
 use chunks::chunk;
-use opening::sheet::Sheet;
+use sheet::geometry::Sheet;
 use words::run;
 use words::word;
 
@@ -29,14 +30,14 @@ fn write_chunk(heap: &mut [u8], g: Sheet, i: usize)
     let at = i * g.chunk;
     let end = at + g.chunk;
     let own = i * record::SIZE;
-    chunk::write_free(&mut heap[at..end], g.records + own as u32);
+    chunk::write_free(&mut heap[at..end], g.record_base + own as u32);
 }
 
 // Writes every chunk.
 pub(crate) fn write_heap(heap: &mut [u8], g: Sheet)
     requires { ⌜ Lawful g ⌝ }
     requires { ⌜ length (now heap) ≡ heapLength g ⌝ }
-    ensures { λ _. ⌜ now (heap .exit) ≡ laidAreas g .heap ⌝ }
+    ensures { λ _. ⌜ now (heap .exit) ≡ laidAreas g .«heap_base» ⌝ }
 {
     let n = g.count;
     let mut i = 0;
@@ -53,7 +54,7 @@ fn link_to(g: Sheet, i: usize) -> u32
 {
     if i < g.count {
         let at = i * record::SIZE;
-        return g.records + at as u32;
+        return g.record_base + at as u32;
     }
     0
 }
@@ -68,7 +69,7 @@ fn write_record(records: &mut [u8], g: Sheet, i: usize)
     let at = i * record::SIZE;
     let buffer = i * g.chunk;
     word::write_u32(records, at + record::NEXT, link_to(g, i + 1));
-    word::write_u32(records, at + record::BUFFER, g.heap + buffer as u32);
+    word::write_u32(records, at + record::BUFFER, g.heap_base + buffer as u32);
     word::write_u32(records, at + record::SLAB, 0);
     word::write_u32(records, at + record::CACHE, g.cache);
     run::fill(records, at + record::STAMP_HIGH, UNSTAMPED, 0);
@@ -78,7 +79,7 @@ fn write_record(records: &mut [u8], g: Sheet, i: usize)
 pub(crate) fn write_records(records: &mut [u8], g: Sheet)
     requires { ⌜ Lawful g ⌝ }
     requires { ⌜ length (now records) ≡ recordsLength g ⌝ }
-    ensures { λ _. ⌜ now (records .exit) ≡ laidAreas g .records ⌝ }
+    ensures { λ _. ⌜ now (records .exit) ≡ laidAreas g .«record_base» ⌝ }
 {
     let n = g.count;
     let mut i = 0;

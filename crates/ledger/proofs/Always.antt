@@ -14,11 +14,11 @@ use Rattle.chunks.specs.Chunk.{grantSize, lawfulSize}
 use Rattle.chunks.specs.declared.chunk.Grant.{Grant}
 use Rattle.area.specs.Place.{placeOf}
 use Rattle.area.specs.Record.{nextWord}
-use Rattle.opening.specs.Areas.{bufferAddress, recordAddress}
+use Rattle.sheet.specs.Geometry.{bufferAddress, recordAddress}
 use Rattle.layout.specs.Layout.{laidAreas}
 use Rattle.holding.specs.Free.{sameGrant}
 use Rattle.holding.specs.Store.{storedAreas}
-use Rattle.opening.specs.declared.sheet.Sheet.{Sheet}
+use Rattle.sheet.specs.declared.geometry.Sheet.{Sheet}
 use Rattle.area.specs.declared.place.Place.{Place}
 use Rattle.area.specs.declared.place.Place.the-variants as place
 use Rattle.area.proofs.Places.{address-one, place-found}
@@ -47,12 +47,12 @@ module _ (g : Sheet) (laid : Laid g) where
       → outCount g (put (bufferAddress g j) o out) + outs (out (bufferAddress g j)) ≡ outCount g out + outs o
   count-put j h o out =
       total-change (λ i. outs (put (bufferAddress g j) o out (bufferAddress g i))) (λ i. outs (out (bufferAddress g i))) (g .count) j h
-      (λ i l ne. ap outs (put-other (bufferAddress g j) (bufferAddress g i) o out (λ e. ne (address-one (g .heap) (g .chunk) i j (chunk-some g laid) e))))
+      (λ i l ne. ap outs (put-other (bufferAddress g j) (bufferAddress g i) o out (λ e. ne (address-one (g .«heap_base») (g .chunk) i j (chunk-some g laid) e))))
       ∙ ap (λ (x : Option Loan). outCount g out + outs x) (put-same (bufferAddress g j) o out)
 
   -- an address is no buffer's, or that of one that is not out, or of one that is
   module _ (out : ℕ → Option Loan) (P : ℕ → Type 0)
-      (stray : (x : ℕ) → placeOf (g .heap) (g .chunk) (g .count) x ≡ place.Nowhere → P x)
+      (stray : (x : ℕ) → placeOf (g .«heap_base») (g .chunk) (g .count) x ≡ place.Nowhere → P x)
       (inside : (j : ℕ) → j < g .count → out (bufferAddress g j) ≡ none → P (bufferAddress g j))
       (outside : (j : ℕ) → j < g .count → (o : Loan) → out (bufferAddress g j) ≡ some o → P (bufferAddress g j)) where
     at : (j : ℕ) → j < g .count → (o : Option Loan) → out (bufferAddress g j) ≡ o → P (bufferAddress g j)
@@ -60,12 +60,12 @@ module _ (g : Sheet) (laid : Laid g) where
     at j h (some o) e = outside j h o e
 
     pub by-address : (x : ℕ) → P x
-    by-address x = go (placeOf (g .heap) (g .chunk) (g .count) x) refl
+    by-address x = go (placeOf (g .«heap_base») (g .chunk) (g .count) x) refl
       where
-        go : (p : Place) → placeOf (g .heap) (g .chunk) (g .count) x ≡ p → P x
+        go : (p : Place) → placeOf (g .«heap_base») (g .chunk) (g .count) x ≡ p → P x
         go place.Nowhere e = stray x e
         go (place.At j) e =
-            let f = place-found (g .heap) (g .chunk) (g .count) x j e in
+            let f = place-found (g .«heap_base») (g .chunk) (g .count) x j e in
             subst P (sym (f .1)) (at j (f .0) (out (bufferAddress g j)) refl)
 
   -- ---- each call
@@ -147,5 +147,5 @@ module _ (g : Sheet) (laid : Laid g) where
   run-fine [] w f = f
   run-fine (call ∷ calls) w f = run-fine calls (step (g .size) call w) (step-fine call w f)
 
-  pub start-fine : g .head ≡ g .records → Fine g (opened (laidAreas g))
+  pub start-fine : g .head ≡ g .«record_base» → Fine g (opened (laidAreas g))
   start-fine e = record { head = g .head; chain = range 0 (g .count); holds = laid-holds g laid e; books = omega (arith, total-none (g .count)) }

@@ -15,7 +15,8 @@ use Rattle.chunks.proofs.Chunks.{grant-within}
 use Rattle.chunks.specs.Chunk.{grantSize, lawfulSize}
 use Rattle.chunks.specs.declared.chunk.Grant.{Grant}
 use Rattle.chunks.specs.declared.chunk.Grant.the-variants as grant
-use Rattle.opening.specs.Areas.{Areas, refusedWith, bufferAddress, recordAddress, chunkAt}
+use Rattle.sheet.specs.Areas.{Areas, refusedWith, chunkAt}
+use Rattle.sheet.specs.Geometry.{bufferAddress, recordAddress}
 use Rattle.area.specs.Place.{placeOf}
 use Rattle.area.specs.Record.{recordSize, addressWord}
 use Rattle.allocation.specs.Allocate.{takenChunk, takenHead, takenOf, allocatePlan, grantedAreas, allocateOf}
@@ -23,12 +24,12 @@ use Rattle.holding.specs.Holding.{holding, heldAs, heldChunk, heldAt, heldOf}
 use Rattle.holding.specs.Free.{sameGrant, freePlan, freedAreas, freeOf}
 use Rattle.holding.specs.Store.{storePlan, storedAreas, storeOf}
 use Rattle.holding.specs.Show.{shownOf}
-use Rattle.opening.specs.declared.sheet.Sheet.{Sheet}
+use Rattle.sheet.specs.declared.geometry.Sheet.{Sheet}
 use Rattle.area.specs.declared.place.Place.the-variants as place
-use Rattle.area.specs.declared.refusal.Refusal.the-variants.{NoSuchBuffer, NoRoom, BadSize, NotAllocated, OtherGrant, PastClient}
-use Rattle.area.specs.Refusal.{done}
+use Rattle.tags.specs.declared.refusal.Refusal.the-variants.{NoSuchBuffer, NoRoom, BadSize, NotAllocated, OtherGrant, PastClient}
+use Rattle.tags.specs.Refusal.{done}
 use Rattle.allocation.specs.declared.allocate.Spot.{Spot}
-use Rattle.area.specs.declared.refusal.Answer.the-variants as answer
+use Rattle.tags.specs.declared.refusal.Answer.the-variants as answer
 use Rattle.holding.specs.declared.holding.Holding.{Holding}
 use Rattle.holding.specs.declared.holding.Held.the-variants as held
 use Rattle.holding.specs.declared.show.Shown.the-variants as shown
@@ -55,11 +56,11 @@ module _ (g : Sheet) (laid : Laid g) where
   abbrev pub hold : ℕ → ℕ → Grant → Holding
   hold head j q = record { sheet = headed g head; buffer = j; own = j; grant = q }
 
-  record-place : (j : ℕ) → j < g .count → (w : ℕ) → w ≡ recordAddress g j → placeOf (g .records) recordSize (g .count) w ≡ place.At j
-  record-place j h w e = place-at (g .records) recordSize (g .count) w j (omega arith) h e
+  record-place : (j : ℕ) → j < g .count → (w : ℕ) → w ≡ recordAddress g j → placeOf (g .«record_base») recordSize (g .count) w ≡ place.At j
+  record-place j h w e = place-at (g .«record_base») recordSize (g .count) w j (omega arith) h e
 
-  buffer-place : (j : ℕ) → j < g .count → (w : ℕ) → w ≡ bufferAddress g j → placeOf (g .heap) (g .chunk) (g .count) w ≡ place.At j
-  buffer-place j h w e = place-at (g .heap) (g .chunk) (g .count) w j (chunk-some g laid) h e
+  buffer-place : (j : ℕ) → j < g .count → (w : ℕ) → w ≡ bufferAddress g j → placeOf (g .«heap_base») (g .chunk) (g .count) w ≡ place.At j
+  buffer-place j h w e = place-at (g .«heap_base») (g .chunk) (g .count) w j (chunk-some g laid) h e
 
   module _ {head : ℕ} {a : Areas} {out : ℕ → Option Loan} {chain : List ℕ} (v : Holds g head a out chain) where
     pub chunk-is : (j : ℕ) → j < g .count → (o : Option Loan) → out (bufferAddress g j) ≡ o → chunkAt g (a .heap) j ≡ chunkFor (g .size) (recordAddress g j) o
@@ -104,7 +105,7 @@ module _ (g : Sheet) (laid : Laid g) where
           eq-eqb (addressWord (a .records) j) (bufferAddress g j) (v .names j h),
         )
 
-    pub held-stray : (x : ℕ) → placeOf (g .heap) (g .chunk) (g .count) x ≡ place.Nowhere → heldOf a x ≡ held.Refused NoSuchBuffer
+    pub held-stray : (x : ℕ) → placeOf (g .«heap_base») (g .chunk) (g .count) x ≡ place.Nowhere → heldOf a x ≡ held.Refused NoSuchBuffer
     unfolding heldOf heldAt
     held-stray x e = rw (opens g laid v, e)
 
@@ -125,7 +126,7 @@ module _ (g : Sheet) (laid : Laid g) where
     unfolding freeOf freePlan
     free-in j h e q uptime thread = rw (held-in j h e)
 
-    pub free-stray : (x : ℕ) → placeOf (g .heap) (g .chunk) (g .count) x ≡ place.Nowhere → (q : Grant) (uptime thread : ℕ)
+    pub free-stray : (x : ℕ) → placeOf (g .«heap_base») (g .chunk) (g .count) x ≡ place.Nowhere → (q : Grant) (uptime thread : ℕ)
         → freeOf a x q uptime thread ≡ refusedWith (answer.Refused NoSuchBuffer) a
     unfolding freeOf freePlan
     free-stray x e q uptime thread = rw (held-stray x e)
@@ -149,7 +150,7 @@ module _ (g : Sheet) (laid : Laid g) where
     unfolding storeOf storePlan
     store-in j h e offset bytes = rw (held-in j h e)
 
-    pub store-stray : (x : ℕ) → placeOf (g .heap) (g .chunk) (g .count) x ≡ place.Nowhere → (offset : ℕ) (bytes : List ℕ)
+    pub store-stray : (x : ℕ) → placeOf (g .«heap_base») (g .chunk) (g .count) x ≡ place.Nowhere → (offset : ℕ) (bytes : List ℕ)
         → storeOf a x offset bytes ≡ refusedWith (answer.Refused NoSuchBuffer) a
     unfolding storeOf storePlan
     store-stray x e offset bytes = rw (held-stray x e)

@@ -15,11 +15,14 @@ use Rattle.chunks.specs.Judge.{freeVerdict, allocatedVerdict, zoneVerdict, size
 use Rattle.tags.specs.Verdict.{verdictNumber, verdictValue}
 use Rattle.chunks.specs.declared.chunk.Grant.the-variants as grant
 use Rattle.area.specs.Record.{stamped, recordWord}
-use Rattle.opening.specs.Sheet.{fieldIs, shaped, sheetOf, sizesLawful, basesLawful, lawful, measured, numbered, openedOf}
+use Rattle.sheet.specs.Fields.{fieldIs, shaped, sheetOf}
+use Rattle.sheet.specs.Limits.{sizesLawful, basesLawful, lawful}
+use Rattle.sheet.specs.Opening.{measured, numbered, openedOf}
 use Rattle.area.specs.Place.{placeOf}
 use Rattle.verdicts.specs.Judge.{ownedVerdict, chainedVerdict}
 use Rattle.transactions.specs.Latest.{considered, latestRow}
-use Rattle.layout.specs.Layout.{linkTo, sheetBytes, recordBytes, laidAreas, layOutPlan, layOutOf}
+use Rattle.layout.specs.Layout.{linkTo, recordBytes, laidAreas, layOutPlan, layOutOf}
+use Rattle.sheet.specs.Fields.{sheetBytes}
 use Rattle.allocation.specs.Allocate.{takenChunk, takenHead, takenOf, allocatePlan, grantedAreas, allocateOf}
 use Rattle.ledger.specs.Ledger.{allocate, resultOf, put, opened, run}
 use Rattle.ledger.specs.Checks.{freshAreas, refusedAs, rowLatest, Check, tagged, judged, aged, next, Holds, AllHold, checks, freeWith, allocatedWith}

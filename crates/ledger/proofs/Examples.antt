@@ -11,19 +11,23 @@ use Rattle.tags.specs.SizeCode.{decodedOf}
 use Rattle.chunks.specs.Chunk.{grantFill, chunkOf, freeChunk, grantedChunk, tagAt}
 use Rattle.chunks.specs.Judge.{freeVerdict, zoneVerdict, sizedVerdict, allocatedVerdict}
 use Rattle.chunks.specs.declared.chunk.Grant.the-variants as grant
-use Rattle.opening.specs.Areas.{Areas}
+use Rattle.sheet.specs.Areas.{Areas}
 use Rattle.area.specs.Record.{stamped, recordWord}
-use Rattle.opening.specs.Sheet.{fieldIs, shaped, sheetOf, sizesLawful, basesLawful, lawful, measured, numbered, openedOf}
+use Rattle.sheet.specs.Fields.{fieldIs, shaped, sheetOf}
+use Rattle.sheet.specs.Limits.{sizesLawful, basesLawful, lawful}
+use Rattle.sheet.specs.Opening.{measured, numbered, openedOf}
 use Rattle.area.specs.Place.{placeOf}
-use Rattle.layout.specs.Layout.{linkTo, sheetBytes, recordBytes, laidAreas, laidSheet, layOutPlan, layOutOf}
+use Rattle.layout.specs.Layout.{linkTo, recordBytes, laidAreas, layOutPlan, layOutOf}
+use Rattle.sheet.specs.Fields.{sheetBytes}
+use Rattle.sheet.specs.Geometry.{laidSheet}
 use Rattle.allocation.specs.Allocate.{takenChunk, takenHead, takenOf, allocatePlan, grantedAreas, allocateOf}
 use Rattle.holding.specs.Holding.{heldChunk, heldAt, heldOf}
 use Rattle.holding.specs.Free.{freePlan, freedAreas, freeOf}
 use Rattle.holding.specs.Store.{storePlan, storedAreas, storeOf}
-use Rattle.area.specs.declared.refusal.Refusal.the-variants.{NoSuchBuffer, NoRoom, BadSize, OtherGrant}
-use Rattle.area.specs.Refusal.{done}
-use Rattle.area.specs.declared.refusal.Answer.the-variants as answer
-use Rattle.area.specs.declared.refusal.Answer.{Answer}
+use Rattle.tags.specs.declared.refusal.Refusal.the-variants.{NoSuchBuffer, NoRoom, BadSize, OtherGrant}
+use Rattle.tags.specs.Refusal.{done}
+use Rattle.tags.specs.declared.refusal.Answer.the-variants as answer
+use Rattle.tags.specs.declared.refusal.Answer.{Answer}
 use Rattle.ledger.specs.Ledger.{Call, allocate, free, store, resultOf, put, World, opened, run, Sound}
 use Rattle.ledger.proofs.Theorem.{theorem}
 

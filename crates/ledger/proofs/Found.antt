@@ -19,13 +19,14 @@ use Rattle.chunks.specs.declared.chunk.Grant.{Grant}
 use Rattle.chunks.specs.declared.chunk.Grant.the-variants as grant
 use Rattle.tags.specs.declared.verdict.Verdict.{Verdict}
 use Rattle.tags.proofs.Tags.{statePattern, tag-pattern}
-use Rattle.opening.specs.Areas.{Areas, bufferAddress, recordAddress}
+use Rattle.sheet.specs.Areas.{Areas}
+use Rattle.sheet.specs.Geometry.{bufferAddress, recordAddress}
 use Rattle.area.specs.Record.{addressWord}
 use Rattle.verdicts.specs.Chain.{occ}
 use Rattle.verdicts.specs.Pairing.{namers, theOne, ownOf}
 use Rattle.verdicts.specs.Judge.{chainedVerdict, ownedVerdict, judged, imageChain, verdictOf}
-use Rattle.opening.specs.declared.sheet.Sheet.{Sheet}
-use Rattle.verdicts.specs.declared.chain.Ending.the-variants.{End}
+use Rattle.sheet.specs.declared.geometry.Sheet.{Sheet}
+use Rattle.tags.specs.declared.ending.Ending.the-variants.{End}
 use Rattle.verdicts.specs.declared.pairing.Own.the-variants.{One}
 use Rattle.area.proofs.Places.{address-one}
 use Rattle.verdicts.proofs.Chains.{linked-chain}
@@ -85,10 +86,10 @@ module _ (g : Sheet) (laid : Laid g) {head : ℕ} {a : Areas} {out : ℕ → Opt
   own-is i h =
       ap theOne
       (namers-one (addressWord (a .records)) (g .count) (bufferAddress g i) i h (v .names i h)
-      (λ j k ne e. ne (address-one (g .heap) (g .chunk) j i (chunk-some g laid) (sym (v .names j k) ∙ e))))
+      (λ j k ne e. ne (address-one (g .«heap_base») (g .chunk) j i (chunk-some g laid) (sym (v .names j k) ∙ e))))
 
   pub chain-is : imageChain (headed g head) (a .records) ≡ record { met = chain; ending = End }
-  chain-is = linked-chain (a .records) (g .records) (g .count) (records-some g laid) head chain (v .linked) (once g laid v)
+  chain-is = linked-chain (a .records) (g .«record_base») (g .count) (records-some g laid) head chain (v .linked) (once g laid v)
 
   pub verdict-is : (i : ℕ) → i < g .count → verdictOf (headed g head) (a .heap) (a .records) i ≡ asNoted (out (bufferAddress g i))
   unfolding verdictOf judged

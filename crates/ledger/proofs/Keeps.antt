@@ -15,14 +15,15 @@ use Rattle.words.proofs.Parts.{part-written, part-inside, part-place, part-fiel
 use Rattle.chunks.specs.Chunk.{lawfulSize, freeChunk, grantedChunk, grantSize}
 use Rattle.chunks.proofs.Chunks.{length-freeChunk, length-grantedChunk, grant-within}
 use Rattle.chunks.specs.declared.chunk.Grant.{Grant}
-use Rattle.opening.specs.Areas.{Areas, bufferAddress, recordAddress, chunkAt}
+use Rattle.sheet.specs.Areas.{Areas, chunkAt}
+use Rattle.sheet.specs.Geometry.{bufferAddress, recordAddress}
 use Rattle.area.specs.Record.{stamped, recordSize, recordWord, nextWord, stampHighAt, threadAt}
 use Rattle.verdicts.specs.Chain.{occ}
 use Rattle.allocation.specs.Allocate.{grantedAreas}
 use Rattle.holding.specs.Free.{freedAreas}
 use Rattle.holding.specs.Store.{storedAreas}
-use Rattle.opening.specs.declared.sheet.Sheet.{Sheet}
-use Rattle.opening.proofs.Sheets.{chunk-inside, record-inside}
+use Rattle.sheet.specs.declared.geometry.Sheet.{Sheet}
+use Rattle.sheet.proofs.Sheets.{chunk-inside, record-inside}
 use Rattle.verdicts.proofs.Marks.{occ-cons, occ-here, occ-apart}
 use Rattle.verdicts.proofs.Chains.{Linked, linked-same}
 use Rattle.ledger.specs.Ledger.{Loan, put, fresh, laidOver, headed}
@@ -99,22 +100,22 @@ module _ (g : Sheet) (laid : Laid g) where
         sheetIs = rw (v .sheetIs) (sheet-head (headed g head) (nextWord (a .records) j));
         heapLong = length-sets (a .heap) (j * g .chunk) c ∙ v .heapLong;
         recordsLong = length-stamped (a .records) j uptime thread ∙ v .recordsLong;
-        linked = linked-same (nextWord (a .records)) (nextWord r) (g .records) (g .count) (nextWord (a .records) j) js
+        linked = linked-same (nextWord (a .records)) (nextWord r) (g .«record_base») (g .count) (nextWord (a .records) j) js
             (λ i m. sym (stamped-word (a .records) j uptime thread i 0 (omega arith)))
             (rest-linked g laid (nextWord (a .records)) head j js (v .linked));
-        each = at-put (g .heap) (g .chunk) (g .count) j (chunk-some g laid) new out (λ i x. occ i js + outs x ≡ 1)
+        each = at-put (g .«heap_base») (g .chunk) (g .count) j (chunk-some g laid) new out (λ i x. occ i js + outs x ≡ 1)
             (omega (arith, v .each j h, occ-here j js))
             (λ i k ne. omega (arith, v .each i k, occ-apart i j js ne));
         only = λ i k. omega (arith, v .only i k, occ-cons i j js);
-        chunks = at-put (g .heap) (g .chunk) (g .count) j (chunk-some g laid) new out (λ i x. chunkAt g heap i ≡ chunkFor (g .size) (recordAddress g i) x)
+        chunks = at-put (g .«heap_base») (g .chunk) (g .count) j (chunk-some g laid) new out (λ i x. chunkAt g heap i ≡ chunkFor (g .size) (recordAddress g i) x)
             (same-chunk c (a .heap) j long (v .heapLong) h
             ∙ ap (λ (x : ℕ). grantedChunk (g .size) x q) at
             ∙ fresh-chunk (g .size) (recordAddress g j) q l)
             (λ i k ne. whole-chunk c (a .heap) (g .chunk) i j (omega (arith, laid .law .sizes .chunks)) ne ∙ v .chunks i k);
         names = λ i k. stamped-word (a .records) j uptime thread i 4 (omega arith) ∙ v .names i k;
-        loans = at-put (g .heap) (g .chunk) (g .count) j (chunk-some g laid) new out (λ i x. LawfulLoan (g .size) x)
+        loans = at-put (g .«heap_base») (g .chunk) (g .count) j (chunk-some g laid) new out (λ i x. LawfulLoan (g .size) x)
             (fresh-lawful (g .size) q l) (λ i k ne. v .loans i k);
-        stray = λ x e. stray-put (g .heap) (g .chunk) (g .count) j (chunk-some g laid) new out x h e ∙ v .stray x e;
+        stray = λ x e. stray-put (g .«heap_base») (g .chunk) (g .count) j (chunk-some g laid) new out x h e ∙ v .stray x e;
       }
 
   pub freed-holds : {head : ℕ} {a : Areas} {out : ℕ → Option Loan} {chain : List ℕ} (j : ℕ) (o : Loan) (uptime thread : ℕ)
@@ -133,8 +134,8 @@ module _ (g : Sheet) (laid : Laid g) where
       = stamped-word before j uptime thread j 0 (omega arith)
       ∙ next-same (a .records) j head (head-fits g laid (nextWord (a .records)) head chain (v .linked))
       (omega (arith, v .recordsLong, record-inside g (laid .law) j h)) in
-      let kept : Linked (nextWord r) (g .records) (g .count) head chain
-      = linked-same (nextWord (a .records)) (nextWord r) (g .records) (g .count) head chain
+      let kept : Linked (nextWord r) (g .«record_base») (g .count) head chain
+      = linked-same (nextWord (a .records)) (nextWord r) (g .«record_base») (g .count) head chain
       (λ i m. sym
       (stamped-word before j uptime thread i 0 (omega arith) ∙ next-other (a .records) j head i (λ q. m (ap (λ (x : ℕ). occ x chain) q ∙ gone))))
       (v .linked) in
@@ -142,17 +143,17 @@ module _ (g : Sheet) (laid : Laid g) where
         sheetIs = rw (v .sheetIs) (sheet-head (headed g head) (recordAddress g j));
         heapLong = length-sets (a .heap) (j * g .chunk) c ∙ v .heapLong;
         recordsLong = length-stamped before j uptime thread ∙ length-sets (a .records) (j * recordSize + 0) (bytesOf 4 head) ∙ v .recordsLong;
-        linked = (h, (refl, subst (λ (x : ℕ). Linked (nextWord r) (g .records) (g .count) x chain) (sym leads) kept));
-        each = at-put (g .heap) (g .chunk) (g .count) j (chunk-some g laid) none out (λ i x. occ i (j ∷ chain) + outs x ≡ 1)
+        linked = (h, (refl, subst (λ (x : ℕ). Linked (nextWord r) (g .«record_base») (g .count) x chain) (sym leads) kept));
+        each = at-put (g .«heap_base») (g .chunk) (g .count) j (chunk-some g laid) none out (λ i x. occ i (j ∷ chain) + outs x ≡ 1)
             (omega (arith, occ-here j chain))
             (λ i k ne. omega (arith, v .each i k, occ-apart i j chain ne));
         only = λ i k. let ne : i ≢ j = omega arith in omega (arith, v .only i k, occ-apart i j chain ne);
-        chunks = at-put (g .heap) (g .chunk) (g .count) j (chunk-some g laid) none out (λ i x. chunkAt g heap i ≡ chunkFor (g .size) (recordAddress g i) x)
+        chunks = at-put (g .«heap_base») (g .chunk) (g .count) j (chunk-some g laid) none out (λ i x. chunkAt g heap i ≡ chunkFor (g .size) (recordAddress g i) x)
             (same-chunk c (a .heap) j long (v .heapLong) h)
             (λ i k ne. whole-chunk c (a .heap) (g .chunk) i j (omega (arith, laid .law .sizes .chunks)) ne ∙ v .chunks i k);
         names = λ i k. stamped-word before j uptime thread i 4 (omega arith) ∙ next-name (a .records) j head i ∙ v .names i k;
-        loans = at-put (g .heap) (g .chunk) (g .count) j (chunk-some g laid) none out (λ i x. LawfulLoan (g .size) x) tt (λ i k ne. v .loans i k);
-        stray = λ x q. stray-put (g .heap) (g .chunk) (g .count) j (chunk-some g laid) none out x h q ∙ v .stray x q;
+        loans = at-put (g .«heap_base») (g .chunk) (g .count) j (chunk-some g laid) none out (λ i x. LawfulLoan (g .size) x) tt (λ i k ne. v .loans i k);
+        stray = λ x q. stray-put (g .«heap_base») (g .chunk) (g .count) j (chunk-some g laid) none out x h q ∙ v .stray x q;
       }
 
   pub stored-holds : {head : ℕ} {a : Areas} {out : ℕ → Option Loan} {chain : List ℕ} (j : ℕ) (o : Loan) (offset : ℕ) (bytes : List ℕ) → Holds g head a out chain
@@ -169,16 +170,16 @@ module _ (g : Sheet) (laid : Laid g) where
         heapLong = length-sets (a .heap) (j * g .chunk + offset) bytes ∙ v .heapLong;
         recordsLong = v .recordsLong;
         linked = v .linked;
-        each = at-put (g .heap) (g .chunk) (g .count) j (chunk-some g laid) new out (λ i x. occ i chain + outs x ≡ 1)
+        each = at-put (g .«heap_base») (g .chunk) (g .count) j (chunk-some g laid) new out (λ i x. occ i chain + outs x ≡ 1)
             (omega (arith, v .each j h, ap outs e)) (λ i k ne. v .each i k);
         only = v .only;
-        chunks = at-put (g .heap) (g .chunk) (g .count) j (chunk-some g laid) new out (λ i x. chunkAt g heap i ≡ chunkFor (g .size) (recordAddress g i) x)
+        chunks = at-put (g .«heap_base») (g .chunk) (g .count) j (chunk-some g laid) new out (λ i x. chunkAt g heap i ≡ chunkFor (g .size) (recordAddress g i) x)
             (part-inside bytes (a .heap) (j * g .chunk) (g .chunk) offset inside
             ∙ ap (λ (x : List ℕ). sets x offset bytes) (chunk-is g laid v j h (some o) e)
             ∙ store-chunk (g .size) (recordAddress g j) offset bytes o l fits)
             (λ i k ne. other-chunk bytes (a .heap) (g .chunk) i j offset inside ne ∙ v .chunks i k);
         names = v .names;
-        loans = at-put (g .heap) (g .chunk) (g .count) j (chunk-some g laid) new out (λ i x. LawfulLoan (g .size) x)
+        loans = at-put (g .«heap_base») (g .chunk) (g .count) j (chunk-some g laid) new out (λ i x. LawfulLoan (g .size) x)
             (store-lawful (g .size) offset bytes o l) (λ i k ne. v .loans i k);
-        stray = λ x q. stray-put (g .heap) (g .chunk) (g .count) j (chunk-some g laid) new out x h q ∙ v .stray x q;
+        stray = λ x q. stray-put (g .«heap_base») (g .chunk) (g .count) j (chunk-some g laid) new out x h q ∙ v .stray x q;
       }

@@ -1,6 +1,6 @@
 -- The areas as they are laid out have the invariant. Assumes nothing.
 use mathlib.Core.Path.{_≡_, refl, sym, ap, _∙_, subst}
-use mathlib.Core.Bool.{Bool, true, false}
+use mathlib.Core.Bool.{Bool, true, false, cond}
 use mathlib.Core.List.{List, _++_}
 use mathlib.Core.Option.{none, some}
 use Prim.Native.Nat.{ℕ, zero, suc, _+_, _*_, _≤_, _<_}
@@ -9,21 +9,23 @@ use native.Mathlib.Omega.{arith}
 use lib.Dec.{eqb, lit<}
 use lib.ListN.{length, replicate, length-append}
 use Rattle.words.specs.Word.{part, flat, number, bytesOf, numberAt}
-use Rattle.words.specs.Run.{pick}
 use Rattle.words.proofs.Numbers.{length-bytesOf, number-back}
 use Rattle.words.proofs.Parts.{part-part, part-left, part-right, part-all, part-front, length-flat, part-flat}
-use Rattle.opening.specs.Areas.{Areas, Result, refusedWith, bufferAddress}
-use Rattle.opening.specs.Sheet.{lawful, lengthsRight, measured, numbered, onOpened}
+use Rattle.sheet.specs.Areas.{Areas, Result, refusedWith}
+use Rattle.sheet.specs.Geometry.{bufferAddress}
+use Rattle.sheet.specs.Limits.{lawful}
+use Rattle.sheet.specs.Opening.{lengthsRight, measured, numbered, byOpened}
 use Rattle.area.specs.Record.{recordWord, addressWord, nextWord}
-use Rattle.layout.specs.Layout.{linkTo, laidSheet, recordBytes, laidAreas, layOutPlan, layOutOf}
-use Rattle.opening.specs.declared.sheet.Sheet.{Sheet}
-use Rattle.area.specs.declared.refusal.Refusal.the-variants.{BadSheet, BadNumber, BadLength}
-use Rattle.opening.specs.declared.sheet.Opened.the-variants as opened
-use Rattle.opening.specs.declared.sheet.Opened.the-variants.{Image}
-use Rattle.area.specs.declared.refusal.Answer.{Answer}
-use Rattle.area.specs.declared.refusal.Answer.the-variants.{Refused}
-use Rattle.area.specs.Refusal.{done}
-use Rattle.opening.proofs.Sheets.{lawful-known, buffer-word}
+use Rattle.layout.specs.Layout.{linkTo, recordBytes, laidAreas, layOutPlan, layOutOf}
+use Rattle.sheet.specs.Geometry.{laidSheet}
+use Rattle.sheet.specs.declared.geometry.Sheet.{Sheet}
+use Rattle.tags.specs.declared.refusal.Refusal.the-variants.{BadSheet, BadNumber, BadLength}
+use Rattle.sheet.specs.declared.opening.Opened.the-variants as opened
+use Rattle.sheet.specs.declared.opening.Opened.the-variants as opened
+use Rattle.tags.specs.declared.refusal.Answer.{Answer}
+use Rattle.tags.specs.declared.refusal.Answer.the-variants.{Refused}
+use Rattle.tags.specs.Refusal.{done}
+use Rattle.sheet.proofs.Sheets.{lawful-known, buffer-word}
 use Rattle.layout.proofs.Layouts.{link-in, link-out, length-recordBytes, laid-chunk, laid-long}
 use Rattle.verdicts.proofs.Chains.{Linked}
 use Rattle.ledger.proofs.Counts.{range, occ-within, occ-above}
@@ -78,7 +80,7 @@ module _ (g : Sheet) (laid : Laid g) where
       (omega arith))
       ∙ number-back 4 y (omega (arith, buffer-word g (laid .law) j h, chunk-some g laid))
 
-  laid-linked : (i m : ℕ) → i + m ≡ g .count → Linked (nextWord (flat (g .count) (recordBytes g))) (g .records) (g .count) (linkTo g i) (range i m)
+  laid-linked : (i m : ℕ) → i + m ≡ g .count → Linked (nextWord (flat (g .count) (recordBytes g))) (g .«record_base») (g .count) (linkTo g i) (range i m)
   unfolding Linked range
   laid-linked i zero e = link-out g i (omega arith)
   laid-linked i (suc m) e =
@@ -86,18 +88,18 @@ module _ (g : Sheet) (laid : Laid g) where
         h,
         (
           link-in g i h,
-          subst (λ (x : ℕ). Linked (nextWord (flat (g .count) (recordBytes g))) (g .records) (g .count) x (range (suc i) m)) (sym (laid-next i h))
+          subst (λ (x : ℕ). Linked (nextWord (flat (g .count) (recordBytes g))) (g .«record_base») (g .count) x (range (suc i) m)) (sym (laid-next i h))
               (laid-linked (suc i) m (omega arith)),
         ),
       )
 
-  pub laid-holds : g .head ≡ g .records → Holds g (g .head) (laidAreas g) (λ x. none) (range 0 (g .count))
+  pub laid-holds : g .head ≡ g .«record_base» → Holds g (g .head) (laidAreas g) (λ x. none) (range 0 (g .count))
   unfolding laidAreas
   laid-holds e = record {
     sheetIs = refl;
     heapLong = length-flat (g .chunk) (laid-chunk g) (laid-long g (laid .law)) (g .count);
     recordsLong = length-flat 96 (recordBytes g) (length-recordBytes g) (g .count);
-    linked = subst (λ (x : ℕ). Linked (nextWord (flat (g .count) (recordBytes g))) (g .records) (g .count) x (range 0 (g .count)))
+    linked = subst (λ (x : ℕ). Linked (nextWord (flat (g .count) (recordBytes g))) (g .«record_base») (g .count) x (range 0 (g .count)))
         (link-in g 0 (laid .law .sizes .some) ∙ omega arith)
         (laid-linked 0 (g .count) (omega arith));
     each = λ j h. omega (arith, occ-within 0 (g .count) j (omega arith) (omega arith));
@@ -111,8 +113,8 @@ module _ (g : Sheet) (laid : Laid g) where
 -- ---- an accepted lay out
 
 three : (p q r : Bool) (a : Areas) (g : Sheet) →
-    let o = pick p (pick q (pick r (Image g) (opened.Refused BadLength)) (opened.Refused BadNumber)) (opened.Refused BadSheet) in
-    let laid = onOpened {A = Result Answer} o (λ s. record { answer = done; areas = laidAreas s }) (λ why. refusedWith (Refused why) a) in
+    let o = cond p (cond q (cond r (opened.Sheet g) (opened.Refused BadLength)) (opened.Refused BadNumber)) (opened.Refused BadSheet) in
+    let laid = byOpened {A = Result Answer} o (λ s. record { answer = done; areas = laidAreas s }) (λ why. refusedWith (Refused why) a) in
     laid .answer ≡ done → (q ≡ true) × (laid .areas ≡ laidAreas g)
 three true true true a g e = (refl, refl)
 three true true false a g e = absurd (let z : _≡_ {A = ℕ} 0 1 = cc in omega arith)

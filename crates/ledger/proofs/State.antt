@@ -9,16 +9,19 @@ use native.Mathlib.Decide.{decLt}
 use native.Mathlib.Omega.{arith}
 use lib.ListN.{length}
 use Rattle.words.proofs.Parts.{below}
-use Rattle.opening.specs.Areas.{Areas, bufferAddress, recordAddress, chunkAt}
-use Rattle.opening.specs.Sheet.{heapLength, recordsLength, lawful, Lawful, openedOf}
+use Rattle.sheet.specs.Areas.{Areas, chunkAt}
+use Rattle.sheet.specs.Geometry.{bufferAddress, recordAddress}
+use Rattle.sheet.specs.Geometry.{heapLength, recordsLength}
+use Rattle.sheet.specs.Limits.{lawful, Lawful}
+use Rattle.sheet.specs.Opening.{openedOf}
 use Rattle.area.specs.Place.{placeOf}
 use Rattle.area.specs.Record.{addressWord, nextWord}
 use Rattle.verdicts.specs.Chain.{occ}
-use Rattle.layout.specs.Layout.{sheetBytes}
-use Rattle.opening.specs.declared.sheet.Sheet.{Sheet}
-use Rattle.opening.specs.declared.sheet.Opened.the-variants.{Image}
+use Rattle.sheet.specs.Fields.{sheetBytes}
+use Rattle.sheet.specs.declared.geometry.Sheet.{Sheet}
+use Rattle.sheet.specs.declared.opening.Opened.the-variants as opened
 use Rattle.area.specs.declared.place.Place.the-variants.{Nowhere}
-use Rattle.opening.proofs.Sheets.{record-word}
+use Rattle.sheet.proofs.Sheets.{record-word}
 use Rattle.verdicts.proofs.Chains.{Linked}
 use Rattle.ledger.specs.Ledger.{Loan, headed}
 use Rattle.ledger.proofs.Chunks.{chunkFor, LawfulLoan}
@@ -41,45 +44,45 @@ pub record Holds (g : Sheet) (head : ℕ) (a : Areas) (out : ℕ → Option Loan
   pub sheetIs : a .sheet ≡ sheetBytes (headed g head)
   pub heapLong : length (a .heap) ≡ heapLength g
   pub recordsLong : length (a .records) ≡ recordsLength g
-  pub linked : Linked (nextWord (a .records)) (g .records) (g .count) head chain
+  pub linked : Linked (nextWord (a .records)) (g .«record_base») (g .count) head chain
   pub each : (j : ℕ) → j < g .count → occ j chain + outs (out (bufferAddress g j)) ≡ 1
   pub only : (j : ℕ) → g .count ≤ j → occ j chain ≡ 0
   pub chunks : (j : ℕ) → j < g .count → chunkAt g (a .heap) j ≡ chunkFor (g .size) (recordAddress g j) (out (bufferAddress g j))
   pub names : (j : ℕ) → j < g .count → addressWord (a .records) j ≡ bufferAddress g j
   pub loans : (j : ℕ) → j < g .count → LawfulLoan (g .size) (out (bufferAddress g j))
-  pub stray : (x : ℕ) → placeOf (g .heap) (g .chunk) (g .count) x ≡ Nowhere → out x ≡ none
+  pub stray : (x : ℕ) → placeOf (g .«heap_base») (g .chunk) (g .count) x ≡ Nowhere → out x ≡ none
 
 module _ (g : Sheet) (laid : Laid g) where
   -- a record's address is a word, and not 0
   pub record-fits : (j : ℕ) → j < g .count → recordAddress g j < 4294967296
   record-fits j h = omega (arith, record-word g (laid .law) j h)
 
-  pub records-some : g .records ≢ 0
+  pub records-some : g .«record_base» ≢ 0
   records-some e = omega (arith, laid .law .bases .recordsSome)
 
   pub chunk-some : 0 < g .chunk
   chunk-some = omega (arith, laid .law .sizes .chunks)
 
   -- the first of a linked list, and the word that leads to it
-  pub first-below : (next : ℕ → ℕ) (head j : ℕ) (js : List ℕ) → Linked next (g .records) (g .count) head (j ∷ js) → j < g .count
+  pub first-below : (next : ℕ → ℕ) (head j : ℕ) (js : List ℕ) → Linked next (g .«record_base») (g .count) head (j ∷ js) → j < g .count
   unfolding Linked
   first-below next head j js l = l .0
 
-  pub first-address : (next : ℕ → ℕ) (head j : ℕ) (js : List ℕ) → Linked next (g .records) (g .count) head (j ∷ js) → head ≡ recordAddress g j
+  pub first-address : (next : ℕ → ℕ) (head j : ℕ) (js : List ℕ) → Linked next (g .«record_base») (g .count) head (j ∷ js) → head ≡ recordAddress g j
   unfolding Linked
   first-address next head j js l = l .1 .0
 
-  pub rest-linked : (next : ℕ → ℕ) (head j : ℕ) (js : List ℕ) → Linked next (g .records) (g .count) head (j ∷ js)
-      → Linked next (g .records) (g .count) (next j) js
+  pub rest-linked : (next : ℕ → ℕ) (head j : ℕ) (js : List ℕ) → Linked next (g .«record_base») (g .count) head (j ∷ js)
+      → Linked next (g .«record_base») (g .count) (next j) js
   unfolding Linked
   rest-linked next head j js l = l .1 .1
 
-  pub none-linked : (next : ℕ → ℕ) (head : ℕ) → Linked next (g .records) (g .count) head [] → head ≡ 0
+  pub none-linked : (next : ℕ → ℕ) (head : ℕ) → Linked next (g .«record_base») (g .count) head [] → head ≡ 0
   unfolding Linked
   none-linked next head l = l
 
   -- the head is a word
-  pub head-fits : (next : ℕ → ℕ) (head : ℕ) (js : List ℕ) → Linked next (g .records) (g .count) head js → head < 4294967296
+  pub head-fits : (next : ℕ → ℕ) (head : ℕ) (js : List ℕ) → Linked next (g .«record_base») (g .count) head js → head < 4294967296
   head-fits next head [] l = omega (arith, none-linked next head l)
   head-fits next head (j ∷ js) l = omega (arith, first-address next head j js l, record-fits j (first-below next head j js l))
 
@@ -104,7 +107,7 @@ module _ (g : Sheet) (laid : Laid g) where
 
   module _ {head : ℕ} {a : Areas} {out : ℕ → Option Loan} {chain : List ℕ} (v : Holds g head a out chain) where
     -- the image opens
-    pub opens : openedOf (a .sheet) (length (a .heap)) (length (a .records)) ≡ Image (headed g head)
+    pub opens : openedOf (a .sheet) (length (a .heap)) (length (a .records)) ≡ opened.Sheet (headed g head)
     opens =
         rw (v .sheetIs)
         (sheet-opens (headed g head) (length (a .heap)) (length (a .records)) (fits head (head-fits (nextWord (a .records)) head chain (v .linked)))

@@ -11,18 +11,19 @@ use Rattle.words.specs.Word.{part}
 use Rattle.tags.specs.Verdict.{verdictNumber, isFault}
 use Rattle.chunks.specs.Chunk.{lawfulSize}
 use Rattle.chunks.specs.declared.chunk.Grant.{Grant}
-use Rattle.opening.specs.Areas.{Areas, Result, bufferAddress}
+use Rattle.sheet.specs.Areas.{Areas, Result}
+use Rattle.sheet.specs.Geometry.{bufferAddress}
 use Rattle.verdicts.specs.Chain.{Chain, occ}
 use Rattle.verdicts.specs.Pairing.{ownOf}
 use Rattle.verdicts.specs.Judge.{imageChain, verdictOf}
-use Rattle.layout.specs.Layout.{laidSheet}
+use Rattle.sheet.specs.Geometry.{laidSheet}
 use Rattle.allocation.specs.Allocate.{allocateOf}
 use Rattle.holding.specs.Show.{shownOf}
-use Rattle.opening.specs.declared.sheet.Sheet.{Sheet}
+use Rattle.sheet.specs.declared.geometry.Sheet.{Sheet}
 use Rattle.verdicts.specs.declared.pairing.Own.the-variants.{One}
-use Rattle.area.specs.declared.refusal.Refusal.the-variants.{NoRoom}
-use Rattle.area.specs.declared.refusal.Answer.{Answer}
-use Rattle.area.specs.declared.refusal.Answer.the-variants as answer
+use Rattle.tags.specs.declared.refusal.Refusal.the-variants.{NoRoom}
+use Rattle.tags.specs.declared.refusal.Answer.{Answer}
+use Rattle.tags.specs.declared.refusal.Answer.the-variants as answer
 use Rattle.holding.specs.declared.show.Shown.the-variants as shown
 use Rattle.verdicts.proofs.Marks.{occ-none}
 use Rattle.ledger.specs.Ledger.{Loan, World, headed, timesMet, isOut, Sound, Claim}

@@ -14,15 +14,15 @@ use Rattle.tags.specs.Verdict.{verdictNumber, verdictValue}
 use Rattle.tags.specs.declared.tag.State.{State}
 use Rattle.tags.specs.declared.tag.State.the-variants as state
 use Rattle.chunks.specs.declared.chunk.Grant.the-variants as grant
-use Rattle.opening.specs.Areas.{Areas, areas}
+use Rattle.sheet.specs.Areas.{Areas, areas}
 use Rattle.area.specs.declared.place.Place.{Place}
 use Rattle.area.specs.declared.place.Place.the-variants as place
 use Rattle.verdicts.specs.Judge.{ownedVerdict}
 use Rattle.transactions.specs.Latest.{latestRow, firstBest}
-use Rattle.area.specs.Refusal.{refusalNumber}
+use Rattle.tags.specs.Refusal.{refusalNumber}
 use Rattle.layout.specs.Layout.{layOutOf}
-use Rattle.area.specs.declared.refusal.Answer.{Answer}
-use Rattle.area.specs.declared.refusal.Answer.the-variants as answer
+use Rattle.tags.specs.declared.refusal.Answer.{Answer}
+use Rattle.tags.specs.declared.refusal.Answer.the-variants as answer
 use Rattle.ledger.specs.Ledger.{Call, allocate, resultOf, opened, run}
 
 -- a fresh image of three buffers of 24 bytes

@@ -1,7 +1,7 @@
 -- The calls, the ledger that is kept from their arguments and answers alone, a run of calls, and what holds after every run. Assumes nothing.
 use mathlib.Core.Path.{_≡_}
 use mathlib.Core.Logic.{_≢_, _↔_}
-use mathlib.Core.Bool.{Bool, true, false}
+use mathlib.Core.Bool.{Bool, true, false, cond}
 use mathlib.Core.List.{List, [], _∷_}
 use mathlib.Core.Option.{Option, none, some}
 use Prim.Native.Nat.{ℕ, suc, _+_, _<_}
@@ -10,31 +10,33 @@ use lib.ListN.{length}
 use lib.Seq.{sets}
 use Rattle.words.specs.Word.{part}
 use Rattle.words.specs.Sum.{total}
-use Rattle.words.specs.Run.{pick, repeated}
+use Rattle.words.specs.Run.{repeated}
 use Rattle.chunks.specs.Chunk.{grantFill, grantSize, lawfulSize}
 use Rattle.tags.specs.Verdict.{verdictNumber, isFault, isFoundAllocated}
 use Rattle.chunks.specs.declared.chunk.Grant.{Grant}
 use Rattle.chunks.specs.declared.chunk.Grant.the-variants as grant
 use Rattle.tags.specs.declared.verdict.Verdict.{Verdict}
 use Rattle.tags.specs.declared.verdict.Verdict.the-variants as verdict
-use Rattle.opening.specs.Areas.{Areas, Result, bufferAddress}
-use Rattle.opening.specs.Sheet.{openedOf}
+use Rattle.sheet.specs.Areas.{Areas, Result}
+use Rattle.sheet.specs.Geometry.{bufferAddress}
+use Rattle.sheet.specs.Opening.{openedOf}
 use Rattle.verdicts.specs.Chain.{occ}
 use Rattle.verdicts.specs.Pairing.{ownOf}
 use Rattle.verdicts.specs.Judge.{imageChain, verdictOf}
-use Rattle.layout.specs.Layout.{laidSheet, layOutOf}
+use Rattle.layout.specs.Layout.{layOutOf}
+use Rattle.sheet.specs.Geometry.{laidSheet}
 use Rattle.allocation.specs.Allocate.{allocateOf}
 use Rattle.holding.specs.Free.{freeOf}
 use Rattle.holding.specs.Store.{storeOf}
 use Rattle.holding.specs.Show.{shownOf}
-use Rattle.opening.specs.declared.sheet.Sheet.{Sheet}
-use Rattle.opening.specs.declared.sheet.Opened.the-variants.{Image}
-use Rattle.verdicts.specs.declared.chain.Ending.the-variants.{End}
+use Rattle.sheet.specs.declared.geometry.Sheet.{Sheet}
+use Rattle.sheet.specs.declared.opening.Opened.the-variants as opened
+use Rattle.tags.specs.declared.ending.Ending.the-variants.{End}
 use Rattle.verdicts.specs.declared.pairing.Own.the-variants.{One}
-use Rattle.area.specs.declared.refusal.Refusal.the-variants.{NoRoom, NotAllocated}
-use Rattle.area.specs.declared.refusal.Answer.{Answer}
-use Rattle.area.specs.declared.refusal.Answer.the-variants as answer
-use Rattle.area.specs.Refusal.{done}
+use Rattle.tags.specs.declared.refusal.Refusal.the-variants.{NoRoom, NotAllocated}
+use Rattle.tags.specs.declared.refusal.Answer.{Answer}
+use Rattle.tags.specs.declared.refusal.Answer.the-variants as answer
+use Rattle.tags.specs.Refusal.{done}
 use Rattle.holding.specs.declared.show.Shown.the-variants as shown
 
 -- ---- the calls
@@ -66,7 +68,7 @@ pub record Ledger : Type 0 where
 
 -- what stands at one address is changed
 unfoldable pub put : ℕ → Option Loan → (ℕ → Option Loan) → ℕ → Option Loan
-put a o f x = pick (eqb x a) o (f x)
+put a o f x = cond (eqb x a) o (f x)
 
 -- B2 (the grant asked for, and its client bytes: ba dd ca fe repeated)
 abbrev pub fresh : ℕ → Grant → Loan
@@ -130,8 +132,8 @@ run size (call ∷ calls) w = run size calls (step size call w)
 abbrev pub headed : Sheet → ℕ → Sheet
 headed g head = record {
   cache = g .cache;
-  heap = g .heap;
-  records = g .records;
+  heap = g .«heap_base»;
+  records = g .«record_base»;
   size = g .size;
   chunk = g .chunk;
   count = g .count;
@@ -151,7 +153,7 @@ asNoted (some o) = asGranted (o .grant)
 
 -- 1 for a buffer that is found allocated, else 0, and how many of n are
 abbrev pub allocatedOne : Verdict → ℕ
-allocatedOne v = pick (isFoundAllocated (verdictNumber v)) 1 0
+allocatedOne v = cond (isFoundAllocated (verdictNumber v)) 1 0
 
 abbrev pub foundAllocated : (ℕ → Verdict) → ℕ → ℕ
 foundAllocated v n = total (λ i. allocatedOne (v i)) n
@@ -170,7 +172,7 @@ pub record Sound (laid : Sheet) (w : World) : Type 0 where
   -- B6: the image opens, and its sheet is the one laid out but for the head
   pub sheet : Sheet
   pub onlyHead : sheet ≡ headed laid (sheet .head)
-  pub opens : openedOf (w .areas .sheet) (length (w .areas .heap)) (length (w .areas .records)) ≡ Image sheet
+  pub opens : openedOf (w .areas .sheet) (length (w .areas .heap)) (length (w .areas .records)) ≡ opened.Sheet sheet
   -- B7: no buffer has a fault
   pub noFault : (i : ℕ) → i < laid .count → isFault (verdictNumber (verdictOf sheet (w .areas .heap) (w .areas .records) i)) ≡ false
   -- B8: the buffers found allocated are those that are out, each as last granted, and all others are found free

@@ -4,8 +4,8 @@ use mathlib.Core.List.{List, [], _∷_}
 use Prim.Native.Nat.{ℕ}
 use Prim.Native.String.{String}
 use lib.ListN.{length}
-use Rattle.verdicts.specs.declared.chain.Ending.{Ending}
-use Rattle.verdicts.specs.declared.chain.Ending.the-variants.{End, Broken, Again}
+use Rattle.tags.specs.declared.ending.Ending.{Ending}
+use Rattle.tags.specs.declared.ending.Ending.the-variants.{End, Broken, Again}
 use Rattle.words.specs.Word.{flat}
 use Rattle.words.specs.Sum.{total}
 use Rattle.lines.specs.Text.{ascii, decimalWith, hasOffset, lineOf, faultLineOf, chainLineOf, textOf, rowNumber, rowValue}

@@ -9,10 +9,10 @@ use lib.ListN.{length, length-append}
 use lib.Seq.{sets}
 use Rattle.io.specs.Digits.{glyph, digits, Fewest}
 use Rattle.words.proofs.Parts.{sets-next}
-use Rattle.verdicts.specs.declared.chain.Ending.{Ending}
+use Rattle.tags.specs.declared.ending.Ending.{Ending}
 use Rattle.lines.specs.Text.{decimalWith, headerOf, linesOf, chainLineOf, faultsIn, faultsOf, textOf, Wrote, writing}
 use Rattle.lines.specs.declared.text.Written.{Written}
-use Rattle.area.specs.Filling.{Filling, filling}
+use Rattle.tags.specs.Filling.{Filling, filling}
 use Rattle.words.proofs.Tests.{by-test}
 use lib.Dec.{leb}
 use Rattle.lines.specs.declared.text.Written.the-variants.{Length, Short}

@@ -1,6 +1,6 @@
 -- The report's text as a list of bytes, and what becomes of an output. Assumes nothing.
 use mathlib.Core.Path.{_≡_}
-use mathlib.Core.Bool.{Bool, _||_}
+use mathlib.Core.Bool.{Bool, _||_, cond}
 use mathlib.Core.List.{List, [], _∷_, _++_}
 use Prim.Native.Char.{code}
 use Prim.Native.Nat.{ℕ, zero, suc, _+_, _*_, _/_, _%_, _≤_}
@@ -10,13 +10,12 @@ use lib.ListN.{length, getD}
 use lib.Seq.{sets}
 use denote.Ref.{RefT, now}
 use denote.Triple.Both.{Both}
-use Rattle.area.specs.Filling.{Filling, filling, ifRoom}
+use Rattle.tags.specs.Filling.{Filling, filling, ifRoom}
 use Rattle.words.specs.Word.{flat}
-use Rattle.words.specs.Run.{pick}
 use Rattle.words.specs.Sum.{total}
 use Rattle.tags.specs.Verdict.{isFault}
-use Rattle.verdicts.specs.declared.chain.Ending.{Ending}
-use Rattle.verdicts.specs.declared.chain.Ending.the-variants.{End, Broken, Again}
+use Rattle.tags.specs.declared.ending.Ending.{Ending}
+use Rattle.tags.specs.declared.ending.Ending.the-variants.{End, Broken, Again}
 use Rattle.lines.specs.declared.text.Written.{Written}
 use Rattle.lines.specs.declared.text.Written.the-variants.{Length, Short}
 
@@ -30,7 +29,7 @@ ascii (c then s) = code c ∷ ascii s
 -- G3 (decimal, without leading zeros): the digits of n, where `fuel` is more than n
 unfoldable pub decimalWith : ℕ → ℕ → List ℕ
 decimalWith zero n = []
-decimalWith (suc fuel) n = pick (ltb n 10) ((48 + n) ∷ []) (decimalWith fuel (n / 10) ++ ((48 + n % 10) ∷ []))
+decimalWith (suc fuel) n = cond (ltb n 10) ((48 + n) ∷ []) (decimalWith fuel (n / 10) ++ ((48 + n % 10) ∷ []))
 
 abbrev pub decimalOf : ℕ → List ℕ
 decimalOf n = decimalWith (suc n) n
@@ -56,15 +55,15 @@ hasOffset number = eqb number 25 || eqb number 26 || eqb number 28
 -- G5 (a fault line: `I fault V OFFSET` or `I fault V`)
 unfoldable pub faultLineOf : ℕ → ℕ → ℕ → List ℕ
 faultLineOf i number value =
-    pick (hasOffset number) (fieldOf i " fault " ++ fieldOf number " " ++ fieldOf value "\n") (fieldOf i " fault " ++ fieldOf number "\n")
+    cond (hasOffset number) (fieldOf i " fault " ++ fieldOf number " " ++ fieldOf value "\n") (fieldOf i " fault " ++ fieldOf number "\n")
 
 -- G5 (buffer lines: `I free`, `I whole`, `I allocated S`, or that of a fault): the line of buffer i, whose verdict has this number and this value, its
 -- size or its offset. Every verdict but 0, 1 and 2 is a fault: none has a number from 3 to 19.
 unfoldable pub lineOf : ℕ → ℕ → ℕ → List ℕ
 lineOf i number value =
-    pick (eqb number 0) (fieldOf i " free\n")
-    (pick (eqb number 1) (fieldOf i " whole\n")
-    (pick (eqb number 2) (fieldOf i " allocated " ++ fieldOf value "\n") (faultLineOf i number value)))
+    cond (eqb number 0) (fieldOf i " free\n")
+    (cond (eqb number 1) (fieldOf i " whole\n")
+    (cond (eqb number 2) (fieldOf i " allocated " ++ fieldOf value "\n") (faultLineOf i number value)))
 
 -- G3 (a line for each buffer): those of buffers 0 to n - 1, where `number` and `value` tell each buffer's verdict
 abbrev pub linesOf : (ℕ → ℕ) → (ℕ → ℕ) → ℕ → List ℕ
@@ -78,7 +77,7 @@ chainLineOf met (Again r) = ascii "chain " ++ fieldOf met " again " ++ fieldOf r
 
 -- 1 for a fault, else 0
 abbrev pub faultOf : ℕ → ℕ
-faultOf number = pick (isFault number) 1 0
+faultOf number = cond (isFault number) 1 0
 
 -- G7 (the number of fault lines): how many of the first n there are
 abbrev pub faultsIn : (ℕ → ℕ) → ℕ → ℕ

@@ -5,11 +5,11 @@ ghost use mathlib.Core.List.{_++_};
 ghost use Prim.Native.Nat.{_+_, _*_, _^_, _≤_, _<_};
 ghost use lib.ListN.{length};
 ghost use Rattle.lines.specs.Text.{decimalOf, headerOf, hasOffset, faultLineOf, lineOf, chainLineOf, faultOf, faultsOf, labelled, rowsText, Put, writing, WrittenIf, refusalLineOf};
-ghost use Rattle.area.specs.Filling.{filling};
-ghost use Rattle.area.specs.Refusal.{refusalNumber};
-use area::refusal;
-use area::refusal::Refusal;
-use verdicts::chain::Ending;
+ghost use Rattle.tags.specs.Filling.{filling};
+ghost use Rattle.tags.specs.Refusal.{refusalNumber};
+use tags::refusal;
+use tags::refusal::Refusal;
+use tags::ending::Ending;
 use words::run;
 
 // How long the text is, where the output has room for it.

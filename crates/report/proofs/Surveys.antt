@@ -10,26 +10,26 @@ use lib.Seq.{sets}
 use Rattle.words.proofs.Parts.{flat-same}
 use Rattle.words.proofs.Sums.{total-same}
 use Rattle.tags.specs.Verdict.{verdictNumber, verdictValue}
-use Rattle.opening.specs.Sheet.{openedWithLog, onOpened}
+use Rattle.sheet.specs.Opening.{openedWithLog, byOpened}
 use Rattle.verdicts.specs.Judge.{verdictOf, imageChain}
 use Rattle.image.specs.Inspect.{tableOf, surveyed, Surveying, surveyOf}
-use Rattle.opening.specs.declared.sheet.Sheet.{Sheet}
-use Rattle.opening.specs.declared.sheet.Opened.{Opened}
+use Rattle.sheet.specs.declared.geometry.Sheet.{Sheet}
+use Rattle.sheet.specs.declared.opening.Opened.{Opened}
 use Rattle.image.specs.declared.inspect.Overview.{Overview}
-use Rattle.area.specs.declared.refusal.Refusal.{Refusal}
-use Rattle.area.specs.declared.refusal.Refusal.the-variants.{ShortOutput}
-use Rattle.opening.proofs.Opens.{logged-known, by-opened}
-use Rattle.opening.specs.Areas.{Areas}
-use Rattle.area.specs.Filling.{Filling, filling, unfilled, ifRoom}
-use Rattle.area.specs.declared.refusal.Answer.{Answer}
-use Rattle.area.specs.declared.refusal.Answer.the-variants.{Value, Refused}
+use Rattle.tags.specs.declared.refusal.Refusal.{Refusal}
+use Rattle.tags.specs.declared.refusal.Refusal.the-variants.{ShortOutput}
+use Rattle.sheet.proofs.Opens.{logged-known, by-opened}
+use Rattle.sheet.specs.Areas.{Areas}
+use Rattle.tags.specs.Filling.{Filling, filling, unfilled, ifRoom}
+use Rattle.tags.specs.declared.refusal.Answer.{Answer}
+use Rattle.tags.specs.declared.refusal.Answer.the-variants.{Value, Refused}
 use Rattle.lines.specs.declared.text.Written.{Written}
 use Rattle.lines.specs.declared.text.Written.the-variants as text-written
 use Rattle.lines.proofs.Texts.{written-fits}
 use Rattle.image.proofs.Findings.{finding}
 use Rattle.lines.specs.Text.{writing, textOf, lineOf, faultOf, rowNumber, rowValue}
 use Rattle.report.specs.Answer.{reportText, reportedBy, reporting, reportOf}
-use Rattle.opening.specs.declared.sheet.Opened.the-variants as opened
+use Rattle.sheet.specs.declared.opening.Opened.the-variants as opened
 use Rattle.image.specs.declared.inspect.Surveyed.{Surveyed}
 use Rattle.image.specs.declared.inspect.Surveyed.the-variants as surveys
 
@@ -60,14 +60,14 @@ rows-text g heap records rows room =
 
 -- what a survey tells of an image that is open, or not
 abbrev pub surveyFrom : Opened → Areas → List ℕ → Surveying
-surveyFrom (opened.Image g) a rows = filling (surveys.Image (surveyed g (a .records))) (sets rows 0 (tableOf g (a .heap) (a .records)))
+surveyFrom (opened.Sheet g) a rows = filling (surveys.Image (surveyed g (a .records))) (sets rows 0 (tableOf g (a .heap) (a .records)))
 surveyFrom (opened.Refused why) a rows = unfilled (surveys.Refused why) rows
 
 abbrev opening : Areas → ℕ → Opened
 opening a l = openedWithLog (a .sheet) (length (a .heap)) (length (a .records)) l
 
 -- the count of an image that opens is small
-few : (a : Areas) (l : ℕ) (g : Sheet) → opening a l ≡ opened.Image g → g .count ≤ 512
+few : (a : Areas) (l : ℕ) (g : Sheet) → opening a l ≡ opened.Sheet g → g .count ≤ 512
 few a l g e = logged-known _ _ _ _ g e .0 .opens .law .sizes .few
 
 pub survey-long : (a : Areas) (l : ℕ) (rows : List ℕ) → 1536 ≤ length rows → surveyOf a l rows ≡ surveyFrom (opening a l) a rows
@@ -75,11 +75,11 @@ unfolding surveyOf
 survey-long a l rows long = go (opening a l) refl
   where
     go : (o : Opened) → opening a l ≡ o
-        → onOpened {A = Surveying} o
+        → byOpened {A = Surveying} o
         (λ g. ifRoom (g .count * 3) rows (filling (surveys.Image (surveyed g (a .records))) (sets rows 0 (tableOf g (a .heap) (a .records)))) (surveys.Refused ShortOutput))
         (λ why. unfilled (surveys.Refused why) rows)
         ≡ surveyFrom o a rows
-    go (opened.Image g) e = rw (le-leb (g .count * 3) (length rows) (omega (arith, few a l g e)))
+    go (opened.Sheet g) e = rw (le-leb (g .count * 3) (length rows) (omega (arith, few a l g e)))
     go (opened.Refused why) e = refl
 
 -- ---- from a survey to the report
@@ -91,9 +91,9 @@ module _ (a : Areas) (l : ℕ) (rows output : List ℕ) (long : 1536 ≤ length 
   report-refused why e = go (opening a l) (sym (ap (λ (x : Surveying). x .answer) (survey-long a l rows long)) ∙ e)
     where
       go : (o : Opened) → surveyFrom o a rows .answer ≡ surveys.Refused why
-          → onOpened {A = Filling Answer ℕ} o (λ g. reporting (reportText g (a .heap) (a .records)) output) (λ r. unfilled (Refused r) output)
+          → byOpened {A = Filling Answer ℕ} o (λ g. reporting (reportText g (a .heap) (a .records)) output) (λ r. unfilled (Refused r) output)
           ≡ unfilled (Refused why) output
-      go (opened.Image g) f = absurd (let z : _≡_ {A = ℕ} 0 1 = cc in omega arith)
+      go (opened.Sheet g) f = absurd (let z : _≡_ {A = ℕ} 0 1 = cc in omega arith)
       go (opened.Refused r) f = let z : r ≡ why = cc in rw z
 
   -- any other gives the text of its rows
@@ -103,9 +103,9 @@ module _ (a : Areas) (l : ℕ) (rows output : List ℕ) (long : 1536 ≤ length 
   report-image v s r e i = go (opening a l) refl (ap (λ (x : Surveyed). filling x r) (sym i) ∙ e ∙ survey-long a l rows long)
     where
       go : (o : Opened) → opening a l ≡ o → filling (surveys.Image v) r ≡ surveyFrom o a rows
-          → onOpened {A = Filling Answer ℕ} o (λ g. reporting (reportText g (a .heap) (a .records)) output) (λ w. unfilled (Refused w) output)
+          → byOpened {A = Filling Answer ℕ} o (λ g. reporting (reportText g (a .heap) (a .records)) output) (λ w. unfilled (Refused w) output)
           ≡ reporting (textOf (rowNumber r) (rowValue r) (v .count) (v .met) (v .ending)) output
-      go (opened.Image g) p f =
+      go (opened.Sheet g) p f =
           let q = ap (λ (x : Surveying). x .answer) f in
           let z : surveyed g (a .records) ≡ v = cc in
           let k : r ≡ sets rows 0 (tableOf g (a .heap) (a .records)) = ap (λ (x : Surveying). x .rows) f in

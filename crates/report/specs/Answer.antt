@@ -3,17 +3,17 @@ use mathlib.Core.List.{List}
 use Prim.Native.Nat.{ℕ}
 use lib.ListN.{length}
 use Rattle.tags.specs.Verdict.{verdictNumber, verdictValue}
-use Rattle.opening.specs.Sheet.{openedWithLog, onOpened}
+use Rattle.sheet.specs.Opening.{openedWithLog, byOpened}
 use Rattle.verdicts.specs.Judge.{verdictOf, imageChain}
-use Rattle.opening.specs.declared.sheet.Sheet.{Sheet}
-use Rattle.area.specs.declared.refusal.Refusal.the-variants.{ShortOutput}
+use Rattle.sheet.specs.declared.geometry.Sheet.{Sheet}
+use Rattle.tags.specs.declared.refusal.Refusal.the-variants.{ShortOutput}
 use Rattle.lines.specs.Text.{textOf, writing}
 use Rattle.lines.specs.declared.text.Written.{Written}
 use Rattle.lines.specs.declared.text.Written.the-variants as written
-use Rattle.area.specs.declared.refusal.Answer.{Answer}
-use Rattle.area.specs.declared.refusal.Answer.the-variants.{Value, Refused}
-use Rattle.area.specs.Filling.{Filling, unfilled, told}
-use Rattle.opening.specs.Areas.{Areas}
+use Rattle.tags.specs.declared.refusal.Answer.{Answer}
+use Rattle.tags.specs.declared.refusal.Answer.the-variants.{Value, Refused}
+use Rattle.tags.specs.Filling.{Filling, unfilled, told}
+use Rattle.sheet.specs.Areas.{Areas}
 
 -- G3 (the text of an image): each buffer's verdict, the records that the chain meets and how it ends
 unfoldable pub reportText : Sheet → List ℕ → List ℕ → List ℕ
@@ -33,6 +33,6 @@ reporting text output = told reportedBy (writing text output)
 -- G3 (the report), after E3 with the log
 unfoldable pub reportOf : Areas → ℕ → List ℕ → Filling Answer ℕ
 reportOf a l output =
-    onOpened (openedWithLog (a .sheet) (length (a .heap)) (length (a .records)) l)
+    byOpened (openedWithLog (a .sheet) (length (a .heap)) (length (a .records)) l)
     (λ g. reporting (reportText g (a .heap) (a .records)) output)
     (λ why. unfilled (Refused why) output)

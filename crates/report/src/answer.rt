@@ -1,11 +1,11 @@
 // The report of an image: all of its text, or a refusal and an output that stays as it was.
 ghost use mathlib.Core.Path.{_≡_};
 ghost use lib.ListN.{length};
-ghost use Rattle.area.specs.Filling.{filling};
-ghost use Rattle.opening.specs.Areas.{before};
+ghost use Rattle.tags.specs.Filling.{filling};
+ghost use Rattle.sheet.specs.Areas.{before};
 ghost use Rattle.report.specs.Answer.{reportOf};
-use area::refusal::Answer;
-use area::refusal::Refusal;
+use tags::refusal::Answer;
+use tags::refusal::Refusal;
 use image::inspect;
 use image::inspect::Surveyed;
 use lines::text;

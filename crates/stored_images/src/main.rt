@@ -3,8 +3,8 @@
 ghost use mathlib.Core.Path.{_≡_};
 ghost use Prim.Native.Nat.{_≤_};
 ghost use lib.ListN.{length};
-use area::refusal::Answer;
-use area::refusal::Refusal;
+use tags::refusal::Answer;
+use tags::refusal::Refusal;
 use libc::STDIN_FILENO;
 use libc::STDOUT_FILENO;
 use lines::text;

@@ -1,6 +1,6 @@
 -- The laws of tags and of size codes. Assumes nothing.
 use mathlib.Core.Path.{_≡_, refl, ap, ap₂, _∙_}
-use mathlib.Core.Bool.{Bool, true, false, _&&_, and-eq-true-iff}
+use mathlib.Core.Bool.{Bool, true, false, _&&_, and-eq-true-iff, cond}
 use Prim.Native.Nat.{ℕ, zero, suc, _+_, _-_, _*_, _/_, _%_, _≤_, _<_}
 use native.Mathlib.Nat.{mod-lt, div-add-mod', zero-lt-suc}
 use native.Mathlib.Omega.{arith}
@@ -8,7 +8,6 @@ use borrow.Author.Tests.{le-leb, leb-true}
 use lib.Arith.{bin-ind}
 use lib.Bits.{bitXor, differ, xor-step, xor-shr, xor-mod}
 use lib.Dec.{eqb, leb}
-use Rattle.words.specs.Run.{pick}
 use Rattle.tags.specs.Tag.{tagOf, patternOf, patternWord, stateWord}
 use Rattle.tags.specs.SizeCode.{codeOf, decodedOf}
 use Rattle.tags.specs.declared.tag.State.{State}
@@ -78,7 +77,7 @@ pub decoded-within : (code most s : ℕ) → decodedOf code most ≡ Size s → 
 unfolding decodedOf
 decoded-within code most s e = go (eqb (code % 251) 1 && (leb 1 (code / 251) && leb (code / 251) most)) refl e
   where
-    go : (b : Bool) → eqb (code % 251) 1 && (leb 1 (code / 251) && leb (code / 251) most) ≡ b → pick b (Size (code / 251)) Bad ≡ Size s
+    go : (b : Bool) → eqb (code % 251) 1 && (leb 1 (code / 251) && leb (code / 251) most) ≡ b → cond b (Size (code / 251)) Bad ≡ Size s
         → (1 ≤ s) × (s ≤ most)
     go true t f =
         let z : code / 251 ≡ s = cc in

@@ -1,8 +1,8 @@
 -- The tag of a chunk. Assumes nothing.
+use mathlib.Core.Bool.{cond}
 use Prim.Native.Nat.{ℕ}
 use lib.Bits.{bitXor}
 use lib.Dec.{eqb}
-use Rattle.words.specs.Run.{pick}
 use Rattle.tags.specs.declared.tag.Tag.{Tag}
 use Rattle.tags.specs.declared.tag.State.{State}
 use Rattle.tags.specs.declared.tag.State.the-variants as state
@@ -27,7 +27,7 @@ tagOf a s = record { t0 = a; t1 = bitXor a (stateWord s) }
 
 -- C3 (the pattern that a word is)
 unfoldable pub patternWord : ℕ → Pattern
-patternWord x = pick (eqb x freePattern) pattern.Free (pick (eqb x allocatedPattern) pattern.Allocated pattern.Neither)
+patternWord x = cond (eqb x freePattern) pattern.Free (cond (eqb x allocatedPattern) pattern.Allocated pattern.Neither)
 
 -- C3 (the pattern of T0 xor T1)
 unfoldable pub patternOf : Tag → Pattern

@@ -9,13 +9,14 @@ use Rattle.words.proofs.Tests.{by-test}
 use Rattle.area.specs.Record.{recordSize, recordWord, stampHighAt, stampLowAt}
 use Rattle.area.specs.declared.place.Place.{Place}
 use Rattle.area.specs.declared.place.Place.the-variants as place
-use Rattle.area.specs.declared.refusal.Refusal.the-variants.{Damage}
+use Rattle.tags.specs.declared.refusal.Refusal.the-variants.{Damage}
 use Rattle.tags.specs.declared.verdict.Verdict.the-variants.{NotOneRecord}
-use Rattle.opening.specs.Areas.{Areas, bufferAddress, recordAddress}
-use Rattle.opening.specs.Sheet.{Open, openedWithLog}
-use Rattle.opening.specs.declared.sheet.Sheet.{Sheet}
-use Rattle.opening.proofs.Opens.{logged-known, by-opened}
-use Rattle.opening.proofs.Sheets.{record-inside}
+use Rattle.sheet.specs.Areas.{Areas}
+use Rattle.sheet.specs.Geometry.{bufferAddress, recordAddress}
+use Rattle.sheet.specs.Opening.{Open, openedWithLog}
+use Rattle.sheet.specs.declared.geometry.Sheet.{Sheet}
+use Rattle.sheet.proofs.Opens.{logged-known, by-opened}
+use Rattle.sheet.proofs.Sheets.{record-inside}
 use Rattle.verdicts.specs.Pairing.{ownOf, byOwn}
 use Rattle.verdicts.specs.declared.pairing.Own.{Own}
 use Rattle.verdicts.specs.declared.pairing.Own.the-variants.{One, NotOne}

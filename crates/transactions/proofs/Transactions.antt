@@ -1,6 +1,6 @@
 -- The laws of the latest transaction: the row that is chosen is one of the log's, and its age is the smallest. Assumes nothing.
 use mathlib.Core.Path.{_≡_, refl}
-use mathlib.Core.Bool.{Bool, true, false, _&&_}
+use mathlib.Core.Bool.{Bool, true, false, _&&_, cond}
 use mathlib.Core.List.{List}
 use Prim.Native.Nat.{ℕ, zero, suc, _+_, _≤_, _<_}
 use native.Mathlib.Nat.{le-step, not-suc-le-zero}
@@ -9,7 +9,6 @@ use native.Mathlib.Omega.{arith}
 use borrow.Author.Count.{below-more}
 use borrow.Author.Tests.{leb-true, leb-false}
 use lib.Dec.{leb}
-use Rattle.words.specs.Run.{pick}
 use Rattle.transactions.specs.Latest.{rowNames, rowAge, considered, latestRow, firstBest, ChosenAt, Smallest}
 use Rattle.area.specs.declared.place.Place.{Place}
 use Rattle.area.specs.declared.place.Place.the-variants.{At, Nowhere}
@@ -31,7 +30,7 @@ module _ (log : List ℕ) (a time : ℕ) where
   row-below stamp (suc n) k e =
       go (rowNames log a n && leb (rowAge log time n) (latestRow log a time (firstBest stamp time) n .age)) e (row-below stamp n k)
     where
-      go : (t : Bool) → pick t (record { row = At n; age = rowAge log time n }) (latestRow log a time (firstBest stamp time) n) .row ≡ At k
+      go : (t : Bool) → cond t (record { row = At n; age = rowAge log time n }) (latestRow log a time (firstBest stamp time) n) .row ≡ At k
           → (latestRow log a time (firstBest stamp time) n .row ≡ At k → k < n) → k < suc n
       go true f ih = let z : n ≡ k = cc in omega arith
       go false f ih = le-step (ih f)
@@ -83,7 +82,7 @@ module _ (log : List ℕ) (a time : ℕ) where
       go b (rowNames log a n) (leb (rowAge log time n) (b .age)) refl refl (latest-smallest stamp n)
     where
       go : (b : Best) (t u : Bool) → rowNames log a n ≡ t → leb (rowAge log time n) (b .age) ≡ u → Smallest log a time stamp n b
-          → Smallest log a time stamp (suc n) (pick (t && u) (record { row = At n; age = rowAge log time n }) b)
+          → Smallest log a time stamp (suc n) (cond (t && u) (record { row = At n; age = rowAge log time n }) b)
       go b true true e f s = smallest-taken stamp n b s e (leb-true (rowAge log time n) (b .age) f)
       go b true false e f s = smallest-kept stamp n b s (λ g. leb-false (rowAge log time n) (b .age) f)
       go b false u e f s = smallest-kept stamp n b s (λ g. absurd (let z : _≡_ {A = ℕ} 0 1 = cc in omega arith))

@@ -1,23 +1,23 @@
 -- The latest transaction. Assumes nothing.
 use mathlib.Core.Path.{_≡_}
-use mathlib.Core.Bool.{Bool, true, _&&_}
+use mathlib.Core.Bool.{Bool, true, _&&_, cond}
 use mathlib.Core.List.{List, []}
 use Prim.Native.Nat.{ℕ, zero, suc, _+_, _*_, _/_, _≤_, _<_}
 use denote.Ref.{RefT}
 use lib.Dec.{eqb, leb, ltb}
 use lib.ListN.{length}
 use Rattle.words.specs.Word.{part, numberAt}
-use Rattle.words.specs.Run.{pick}
 use Rattle.words.specs.Age.{ageOf}
 use Rattle.tags.specs.declared.verdict.Verdict.the-variants.{NotOneRecord}
 use Rattle.area.specs.Record.{recordSize, recordWord, stampHighAt, stampLowAt}
-use Rattle.opening.specs.Sheet.{openedWithLog, onOpened}
+use Rattle.sheet.specs.Opening.{openedWithLog, byOpened}
 use Rattle.verdicts.specs.Pairing.{ownOf, byOwn}
-use Rattle.opening.specs.Areas.{Areas, bufferAddress, recordAddress, PartAt}
-use Rattle.opening.specs.declared.sheet.Sheet.{Sheet}
+use Rattle.sheet.specs.Areas.{Areas, PartAt}
+use Rattle.sheet.specs.Geometry.{bufferAddress, recordAddress}
+use Rattle.sheet.specs.declared.geometry.Sheet.{Sheet}
 use Rattle.area.specs.declared.place.Place.{Place}
 use Rattle.area.specs.declared.place.Place.the-variants as place
-use Rattle.area.specs.declared.refusal.Refusal.the-variants.{NoSuchBuffer, Damage, WideStamp}
+use Rattle.tags.specs.declared.refusal.Refusal.the-variants.{NoSuchBuffer, Damage, WideStamp}
 use Rattle.transactions.specs.declared.latest.Best.{Best}
 use Rattle.transactions.specs.declared.latest.Transaction.{Transaction}
 use Rattle.transactions.specs.declared.latest.Transaction.the-variants.{Row, Record, Refused}
@@ -37,7 +37,7 @@ rowAge log time k = ageOf 32 time (numberAt 4 log (k * rowSize + 4))
 -- L3 (of equal ages, the later row): row k takes the place of what was latest before it if it names the record and is not older
 unfoldable pub considered : List ℕ → ℕ → ℕ → ℕ → Best → Best
 considered log a time k b =
-    pick (rowNames log a k && leb (rowAge log time k) (b .age)) (record { row = place.At k; age = rowAge log time k }) b
+    cond (rowNames log a k && leb (rowAge log time k) (b .age)) (record { row = place.At k; age = rowAge log time k }) b
 
 -- L3 (the smallest age): the latest of what was latest before and the first n rows, one after the other
 unfoldable pub latestRow : List ℕ → ℕ → ℕ → Best → ℕ → Best
@@ -56,19 +56,19 @@ rowOrRecord place.Nowhere j = Record j
 -- X12 (the high half of the stamp is not 0), for the buffer whose own record is j
 unfoldable pub ownedLatest : Sheet → List ℕ → List ℕ → ℕ → ℕ → Transaction
 ownedLatest g records log time j =
-    pick (eqb (recordWord records j stampHighAt) 0)
+    cond (eqb (recordWord records j stampHighAt) 0)
     (rowOrRecord (latestRow log (recordAddress g j) time (firstBest (recordWord records j stampLowAt) time) (length log / rowSize) .row) j)
     (Refused WideStamp)
 
 -- X4 (index not below n), E7 (X7 with 20)
 unfoldable pub indexedLatest : Sheet → List ℕ → List ℕ → ℕ → ℕ → Transaction
 indexedLatest g records log index time =
-    pick (ltb index (g .count)) (byOwn (ownOf records (g .count) (bufferAddress g index)) (ownedLatest g records log time) (Refused (Damage NotOneRecord))) (Refused NoSuchBuffer)
+    cond (ltb index (g .count)) (byOwn (ownOf records (g .count) (bufferAddress g index)) (ownedLatest g records log time) (Refused (Damage NotOneRecord))) (Refused NoSuchBuffer)
 
 -- E7 (the order of latest), after E3
 unfoldable pub latestOf : Areas → List ℕ → ℕ → ℕ → Transaction
 latestOf a log index time =
-    onOpened (openedWithLog (a .sheet) (length (a .heap)) (length (a .records)) (length log)) (λ g. indexedLatest g (a .records) log index time) Refused
+    byOpened (openedWithLog (a .sheet) (length (a .heap)) (length (a .records)) (length log)) (λ g. indexedLatest g (a .records) log index time) Refused
 
 -- L4 (the part handed back), E1 (of a refusal, none)
 abbrev pub latestPart : List ℕ → List ℕ → Transaction → List ℕ

@@ -3,16 +3,17 @@
 ghost use mathlib.Core.Path.{_≡_};
 ghost use Prim.Native.Nat.{_+_, _*_, _≤_, _<_};
 ghost use lib.ListN.{length};
-ghost use Rattle.opening.specs.Sheet.{Open};
+ghost use Rattle.sheet.specs.Opening.{Open};
 ghost use Rattle.verdicts.specs.Pairing.{ownOf};
-ghost use Rattle.opening.specs.Areas.{before, bufferAddress};
+ghost use Rattle.sheet.specs.Areas.{before};
+ghost use Rattle.sheet.specs.Geometry.{bufferAddress};
 ghost use Rattle.transactions.specs.Latest.{rowSize, considered, latestRow, firstBest, ownedLatest, indexedLatest, latestOf, latestPart, LatestPlace};
 use area::place::Place;
 use area::record;
-use area::refusal::Refusal;
-use opening::sheet;
-use opening::sheet::Opened;
-use opening::sheet::Sheet;
+use tags::refusal::Refusal;
+use sheet::opening;
+use sheet::opening::Opened;
+use sheet::geometry::Sheet;
 use tags::verdict::Verdict;
 use verdicts::pairing;
 use verdicts::pairing::Own;
@@ -77,11 +78,11 @@ fn latest_owned(records: &[u8], log: &[u8], g: Sheet, j: usize, time: u32) -> Tr
     requires { ⌜ length (now log) ≤ 16384 ⌝ }
     ensures { λ r. ⌜ r ≡ ownedLatest g (now (records .entry)) (now (log .entry)) time j ⌝ }
 {
-    if record::read(records, g.records, j, record::STAMP_HIGH) != 0 {
+    if record::read(records, g.record_base, j, record::STAMP_HIGH) != 0 {
         return Transaction::Refused(Refusal::WideStamp);
     }
-    let record_at = g.records + (j * record::SIZE) as u32;
-    let stamp = record::read(records, g.records, j, record::STAMP_LOW);
+    let record_at = g.record_base + (j * record::SIZE) as u32;
+    let stamp = record::read(records, g.record_base, j, record::STAMP_LOW);
     let best = latest_row(log, log.len() / ROW, record_at, stamp, time);
     let row = best.row;
     match row {
@@ -97,7 +98,7 @@ fn own_of(records: &[u8], g: Sheet, i: usize) -> Own
     ensures { λ r. ⌜ r ≡ ownOf (now (records .entry)) (g .count) (bufferAddress g i) ⌝ }
 {
     let mut pairs = [0u16; 512];
-    pairing::pair(records, g.records, g.heap, g.chunk, g.count, &mut pairs);
+    pairing::pair(records, g.record_base, g.heap_base, g.chunk, g.count, &mut pairs);
     pairing::own_record(&pairs, i)
 }
 
@@ -130,10 +131,10 @@ pub fn find_latest(
 ) -> Transaction
     ensures { λ r. ⌜ r ≡ latestOf (before sheet heap records) (now (log .entry)) index time ⌝ }
 {
-    let opened = sheet::open_with_log(sheet, heap.len(), records.len(), log.len());
+    let opened = opening::open_with_log(sheet, heap.len(), records.len(), log.len());
     match opened {
         Opened::Refused(why) => Transaction::Refused(why),
-        Opened::Image(g) => latest_of(records, log, g, index, time),
+        Opened::Sheet(g) => latest_of(records, log, g, index, time),
     }
 }
 

@@ -14,8 +14,8 @@ use Rattle.verdicts.specs.Chain.{occ, Chain, stop, meets, ChainRule, cha
 use Rattle.verdicts.specs.Walk.{mark, marksOf, ofPlace, endingAt, wordValues, Gives}
 use Rattle.area.specs.declared.place.Place.{Place}
 use Rattle.area.specs.declared.place.Place.the-variants.{At, Nowhere}
-use Rattle.verdicts.specs.declared.chain.Ending.{Ending}
-use Rattle.verdicts.specs.declared.chain.Ending.the-variants.{End, Broken, Again}
+use Rattle.tags.specs.declared.ending.Ending.{Ending}
+use Rattle.tags.specs.declared.ending.Ending.the-variants.{End, Broken, Again}
 use Rattle.area.proofs.Places.{place-at, place-found}
 use Rattle.verdicts.proofs.Marks.{occ-none, occ-cons, occ-here, occ-apart, mark-most, marks-mid, left, left-most, left-fewer}
 

@@ -1,4 +1,5 @@
 -- The laws of the records met: how often one stands in a list, the marks that stand for them, and how many are not met yet. Assumes nothing.
+use mathlib.Core.Bool.{cond}
 use mathlib.Core.Path.{_≡_, refl, sym, ap, _∙_}
 use mathlib.Core.Logic.{_≢_}
 use mathlib.Core.List.{List, [], _∷_, _++_}
@@ -10,7 +11,6 @@ use borrow.Author.Tests.{eq-eqb, ne-eqb}
 use lib.Dec.{eqb}
 use lib.ListN.{length, getD, set, replicate, length-set}
 use lib.Seq.{ext-getD, getD-set-same, getD-set-other}
-use Rattle.words.specs.Run.{pick}
 use Rattle.verdicts.specs.Chain.{occ}
 use Rattle.verdicts.specs.Walk.{table, mark, marksOf, unmarked, unmet}
 
@@ -20,7 +20,7 @@ pub occ-none : (i : ℕ) → occ i [] ≡ 0
 unfolding occ
 occ-none i = refl
 
-pub occ-cons : (i j : ℕ) (l : List ℕ) → occ i (j ∷ l) ≡ pick (eqb i j) 1 0 + occ i l
+pub occ-cons : (i j : ℕ) (l : List ℕ) → occ i (j ∷ l) ≡ cond (eqb i j) 1 0 + occ i l
 unfolding occ
 occ-cons i j l = refl
 

@@ -1,21 +1,23 @@
 -- The chain. Assumes nothing.
+use mathlib.Core.Bool.{Bool, not, cond}
 use mathlib.Core.Path.{_≡_}
 use mathlib.Core.Logic.{_≢_}
 use mathlib.Core.List.{List, [], _∷_}
 use Prim.Native.Nat.{ℕ, zero, suc, _+_}
 use lib.Dec.{eqb}
-use Rattle.words.specs.Run.{pick}
-use Rattle.area.specs.Place.{placeOf, placed}
+use Rattle.area.specs.Place.{placeOf, byPlace}
 use Rattle.area.specs.Record.{recordSize, nextWord}
 use Rattle.area.specs.declared.place.Place.{Place}
 use Rattle.area.specs.declared.place.Place.the-variants.{At, Nowhere}
-use Rattle.verdicts.specs.declared.chain.Ending.{Ending}
-use Rattle.verdicts.specs.declared.chain.Ending.the-variants.{End, Broken, Again}
+use Rattle.sheet.specs.Areas.{Image}
+use Rattle.sheet.specs.declared.geometry.Sheet.{Sheet}
+use Rattle.tags.specs.declared.ending.Ending.{Ending}
+use Rattle.tags.specs.declared.ending.Ending.the-variants.{End, Broken, Again}
 
 -- how often x stands in a list
 unfoldable pub occ : ℕ → List ℕ → ℕ
 occ x [] = 0
-occ x (y ∷ l) = pick (eqb x y) 1 0 + occ x l
+occ x (y ∷ l) = cond (eqb x y) 1 0 + occ x l
 
 -- the records that a chain meets, in order, and how it ends
 pub record Chain : Type 0 where
@@ -45,13 +47,21 @@ pub record ChainRule (next : ℕ → ℕ) (at : ℕ → Place) (chain : List ℕ
 unfoldable pub chainFrom : (ℕ → ℕ) → (ℕ → Place) → ℕ → List ℕ → ℕ → Chain
 chainFrom next at zero seen w = stop Broken
 chainFrom next at (suc k) seen w =
-    pick (eqb w 0) (stop End)
-    (placed (at w) (λ i. pick (eqb (occ i seen) 0) (meets i (chainFrom next at k (i ∷ seen) (next i))) (stop (Again i))) (stop Broken))
+    cond (eqb w 0) (stop End)
+    (byPlace (at w) (λ i. cond (eqb (occ i seen) 0) (meets i (chainFrom next at k (i ∷ seen) (next i))) (stop (Again i))) (stop Broken))
 
 -- the same, of the n records in `records` at the address `base`
 unfoldable pub chainAfter : List ℕ → ℕ → ℕ → List ℕ → ℕ → Chain
 chainAfter records base n seen w = chainFrom (nextWord records) (placeOf base recordSize n) (suc n) seen w
 
--- H1 (it starts at the head): the whole chain
-unfoldable pub chainOf : List ℕ → ℕ → ℕ → ℕ → Chain
-chainOf records base n head = chainAfter records base n [] head
+-- H1 (it starts at the head): the whole chain, of the records of a sheet
+unfoldable pub chainIn : Sheet → List ℕ → Chain
+chainIn g records = chainAfter records (g .«record_base») (g .count) [] (g .head)
+
+-- H1 (the chain of an image)
+abbrev pub chainOf : Image → Chain
+chainOf m = chainIn (m .sheet) (m .records)
+
+-- H5 (record j is met by a chain)
+abbrev pub metBy : Chain → ℕ → Bool
+metBy c j = not (eqb (occ j (c .met)) 0)

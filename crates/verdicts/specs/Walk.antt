@@ -1,17 +1,17 @@
 -- The marks that stand for the records met, and what a walk from some word of the chain on gives. Assumes nothing.
+use mathlib.Core.Bool.{cond}
 use mathlib.Core.Path.{_≡_}
 use mathlib.Core.List.{List, [], _∷_, _++_}
 use Prim.Native.Nat.{ℕ, zero, suc, _+_, _/_, _%_}
 use lib.Dec.{eqb}
 use lib.ListN.{length}
-use Rattle.words.specs.Run.{pick}
 use Rattle.area.specs.Place.{placeOf}
 use Rattle.area.specs.Record.{recordSize}
 use Rattle.verdicts.specs.Chain.{occ, Chain, chainAfter}
 use Rattle.area.specs.declared.place.Place.{Place}
 use Rattle.area.specs.declared.place.Place.the-variants.{At, Nowhere}
-use Rattle.verdicts.specs.declared.chain.Ending.{Ending}
-use Rattle.verdicts.specs.declared.chain.Ending.the-variants.{End, Broken, Again}
+use Rattle.tags.specs.declared.ending.Ending.{Ending}
+use Rattle.tags.specs.declared.ending.Ending.the-variants.{End, Broken, Again}
 
 -- the list of f 0 up to f (n - 1)
 unfoldable pub table : ℕ → (ℕ → ℕ) → List ℕ
@@ -43,7 +43,7 @@ ofPlace Nowhere = Broken
 
 -- how a chain ends that stops at the word w
 unfoldable pub endingAt : ℕ → ℕ → ℕ → Ending
-endingAt base n w = pick (eqb w 0) End (ofPlace (placeOf base recordSize n w))
+endingAt base n w = cond (eqb w 0) End (ofPlace (placeOf base recordSize n w))
 
 -- how many values a word has: a walk gives the number of records met times this, and the word at which it stops
 abbrev pub wordValues : ℕ

@@ -3,15 +3,16 @@ ghost use mathlib.Core.Path.{_≡_};
 ghost use Prim.Native.Nat.{_<_};
 ghost use lib.ListN.{length};
 ghost use Rattle.chunks.specs.Chunk.{ChunkLength};
-ghost use Rattle.opening.specs.Sheet.{Lawful, heapLength};
+ghost use Rattle.sheet.specs.Limits.{Lawful};
+ghost use Rattle.sheet.specs.Geometry.{heapLength};
 ghost use Rattle.verdicts.specs.Judge.{ownedVerdict, chainedVerdict, againAt, judged, marked};
 ghost use Rattle.verdicts.specs.Pairing.{OwnIf};
-use crate::chain::Ending;
+use tags::ending::Ending;
 use crate::pairing::Own;
 use area::record;
 use chunks::chunk;
 use chunks::judge;
-use opening::sheet::Sheet;
+use sheet::geometry::Sheet;
 use tags::tag::Pattern;
 use tags::verdict::Verdict;
 
@@ -86,7 +87,7 @@ pub fn judge_buffer(
         Own::One(j) => {
             let at = i * g.chunk;
             let end = at + g.chunk;
-            let record_at = g.records + (j * record::SIZE) as u32;
+            let record_at = g.record_base + (j * record::SIZE) as u32;
             judge_owned(
                 &heap[at..end],
                 record_at,

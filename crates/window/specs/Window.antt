@@ -1,18 +1,17 @@
 -- A6 (the address window: a base address and the lent bytes that stand from there on). Assumes nothing.
-use mathlib.Core.Bool.{_&&_}
+use mathlib.Core.Bool.{_&&_, cond}
 use mathlib.Core.List.{List}
 use Prim.Native.Nat.{ℕ, _+_, _-_}
 use lib.Dec.{leb}
 use lib.ListN.{length}
 use Rattle.words.specs.Word.{numberAt}
-use Rattle.words.specs.Run.{pick}
 use Rattle.window.specs.declared.Word.{Word}
 use Rattle.window.specs.declared.Word.the-variants.{At, NoWord}
 
 -- A6 (no number partly outside): that of the `width` bytes from the address a on, if all lie in the window, `bytes` from the address `base` on
 unfoldable pub numberIn : ℕ → List ℕ → ℕ → ℕ → Word
 numberIn width bytes base a =
-    pick (leb base a && leb (a - base + width) (length bytes)) (At (numberAt width bytes (a - base))) NoWord
+    cond (leb base a && leb (a - base + width) (length bytes)) (At (numberAt width bytes (a - base))) NoWord
 
 -- W2 (a word has four bytes)
 abbrev pub wordIn : List ℕ → ℕ → ℕ → Word

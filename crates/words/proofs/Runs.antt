@@ -1,6 +1,6 @@
 -- The laws of a word again and again, of the first place at which two lists differ, and of runs that are filled or compared from the front. Assumes nothing.
 use mathlib.Core.Path.{_≡_, refl, sym, ap, _∙_}
-use mathlib.Core.Bool.{Bool, true, false}
+use mathlib.Core.Bool.{Bool, true, false, cond}
 use mathlib.Core.List.{List, [], _∷_, _++_, append-assoc}
 use Prim.Native.Nat.{ℕ, zero, suc, _+_, _%_, _≤_, _<_}
 use native.Mathlib.Nat.{add-zero, zero-add}
@@ -8,10 +8,10 @@ use native.Mathlib.Decide.{ℕ-discrete}
 use native.Mathlib.Omega.{arith}
 use borrow.Author.Tests.{eq-eqb, ne-eqb}
 use lib.Dec.{eqb}
-use lib.ListN.{length, getD, length-append, List·getD-append}
+use lib.ListN.{length, getD, replicate, length-append, length-replicate, getD-replicate, List·getD-append}
 use lib.Seq.{sets, ext-getD, getD-at}
 use Rattle.words.specs.Word.{part, bytesOf}
-use Rattle.words.specs.Run.{pick, repeated, differenceFrom, difference}
+use Rattle.words.specs.Run.{repeated, differenceFrom, difference}
 use Rattle.words.specs.declared.run.Difference.{Difference}
 use Rattle.words.specs.declared.run.Difference.the-variants.{At, Nowhere}
 use Rattle.words.proofs.Parts.{length-part, getD-part, sets-then}
@@ -90,7 +90,7 @@ within k [] ys o e = absurd (let z : _≡_ {A = ℕ} 0 1 = cc in omega arith)
 within k (x ∷ xs) [] o e = let z : k ≡ o = cc in omega arith
 within k (x ∷ xs) (y ∷ ys) o e = go (eqb x y) (within (suc k) xs ys o) e
   where
-    go : (b : Bool) → (differenceFrom (suc k) xs ys ≡ At o → o < suc k + length xs) → pick b (differenceFrom (suc k) xs ys) (At k) ≡ At o
+    go : (b : Bool) → (differenceFrom (suc k) xs ys ≡ At o → o < suc k + length xs) → cond b (differenceFrom (suc k) xs ys) (At k) ≡ At o
         → o < k + suc (length xs)
     go true ih f = omega (arith, ih f)
     go false ih f = let z : k ≡ o = cc in omega arith
@@ -133,3 +133,17 @@ module _ (s : List ℕ) (at len w : ℕ) (fits : at + len ≤ length s) where
   -- a place at which the run differs is a place of the run
   pub run-within : (o : ℕ) (d : Difference) → d ≡ difference (part s at len) (repeated len w) → d ≡ At o → o < len
   run-within o d e g = omega (arith, differs-within (part s at len) (repeated len w) o (sym e ∙ g), length-part s at len fits)
+
+-- the word 0 again and again is 0 again and again
+zero-byte : (k : ℕ) → getD (bytesOf 4 0) k 0 ≡ 0
+unfolding bytesOf
+zero-byte zero = refl
+zero-byte (suc zero) = refl
+zero-byte (suc (suc zero)) = refl
+zero-byte (suc (suc (suc zero))) = refl
+zero-byte (suc (suc (suc (suc k)))) = refl
+
+pub repeated-none : (n : ℕ) → repeated n 0 ≡ replicate n 0
+repeated-none n =
+    ext-getD 0 (repeated n 0) (replicate n 0) (length-repeated n 0 ∙ sym (length-replicate n 0))
+    (λ i l. let h : i < n = omega (arith, length-repeated n 0) in getD-repeated n 0 i h ∙ zero-byte (i % 4) ∙ sym (getD-replicate n i 0 0 h))

@@ -1,5 +1,5 @@
 -- Runs of bytes that repeat a word, and the first place at which two runs differ. Assumes nothing.
-use mathlib.Core.Bool.{Bool, true, false}
+use mathlib.Core.Bool.{cond}
 use mathlib.Core.List.{List, [], _∷_, _++_}
 use Prim.Native.Nat.{ℕ, zero, suc, _+_, _%_}
 use lib.Dec.{eqb}
@@ -7,11 +7,6 @@ use lib.ListN.{getD}
 use Rattle.words.specs.Word.{bytesOf}
 use Rattle.words.specs.declared.run.Difference.{Difference}
 use Rattle.words.specs.declared.run.Difference.the-variants.{At, Nowhere}
-
--- the first of two where a test holds, else the second
-abbrev pub pick : {A : Type 0} → Bool → A → A → A
-pick true a b = a
-pick false a b = b
 
 -- W3 (a run that repeats a word): n bytes of the word w again and again, byte i is byte i mod 4 of w
 unfoldable pub repeated : ℕ → ℕ → List ℕ
@@ -22,7 +17,7 @@ repeated (suc i) w = repeated i w ++ (getD (bytesOf 4 w) (i % 4) 0 ∷ [])
 unfoldable pub differenceFrom : ℕ → List ℕ → List ℕ → Difference
 differenceFrom k [] ys = Nowhere
 differenceFrom k (x ∷ xs) [] = At k
-differenceFrom k (x ∷ xs) (y ∷ ys) = pick (eqb x y) (differenceFrom (suc k) xs ys) (At k)
+differenceFrom k (x ∷ xs) (y ∷ ys) = cond (eqb x y) (differenceFrom (suc k) xs ys) (At k)
 
 -- J7 (the first byte that differs): the first place at which `xs` and `ys` differ
 abbrev pub difference : List ℕ → List ℕ → Difference

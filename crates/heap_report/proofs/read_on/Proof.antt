@@ -1,7 +1,7 @@
 -- The lengths of a lawful sheet are those of the space that is read into. Assumes nothing.
 use mathlib.Core.Path.{sym, _∙_}
 use borrow.Author.Needs.{needs}
-use Rattle.opening.proofs.Opens.{lengths-known}
+use Rattle.sheet.proofs.Opens.{lengths-known}
 use Rattle.heap_report.proofs.read_on.Statement.{statement}
 use Rattle.heap_report.proofs.read_on.Tie as tie
 

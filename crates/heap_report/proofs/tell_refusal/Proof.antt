@@ -2,7 +2,7 @@
 use native.Mathlib.Omega.{arith}
 use borrow.Author.Needs.{needs}
 use lib.ListN.{replicate}
-use Rattle.area.specs.Refusal.{refusalNumber}
+use Rattle.tags.specs.Refusal.{refusalNumber}
 use Rattle.lines.specs.Text.{refusalLineOf}
 use Rattle.lines.proofs.Texts.{written-fits}
 use Rattle.heap_report.proofs.tell_refusal.Statement.{statement}

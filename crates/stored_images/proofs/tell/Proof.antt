@@ -3,8 +3,8 @@ use mathlib.Core.Path.{sym, ap, _∙_}
 use Prim.Native.Nat.{ℕ}
 use native.Mathlib.Omega.{arith}
 use borrow.Author.Needs.{needs}
-use Rattle.area.specs.Filling.{Filling}
-use Rattle.area.specs.declared.refusal.Answer.{Answer}
+use Rattle.tags.specs.Filling.{Filling}
+use Rattle.tags.specs.declared.refusal.Answer.{Answer}
 use Rattle.report.proofs.Surveys.{report-fits}
 use Rattle.stored_images.proofs.tell.Statement.{statement}
 use Rattle.stored_images.proofs.tell.Tie as tie

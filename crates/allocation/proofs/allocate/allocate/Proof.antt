@@ -4,9 +4,9 @@ use Prim.Native.Nat.{_+_, _*_, _≤_, _<_}
 use native.Mathlib.Omega.{arith}
 use borrow.Author.Needs.{needs}
 use Rattle.allocation.specs.Allocate.{allocateOf, Takes}
-use Rattle.opening.specs.Areas.{lent, byLengths}
+use Rattle.sheet.specs.Areas.{lent, byLengths}
 use Rattle.allocation.proofs.Takings.{taken-known}
-use Rattle.opening.proofs.Sheets.{chunk-small, buffer-word}
+use Rattle.sheet.proofs.Sheets.{chunk-small, buffer-word}
 use Rattle.allocation.proofs.allocate.allocate.Statement.{statement}
 use Rattle.allocation.proofs.allocate.allocate.Tie as tie
 

@@ -6,7 +6,7 @@ use native.Mathlib.Omega.{arith}
 use borrow.Author.Needs.{needs}
 use lib.ListN.{length}
 use Rattle.allocation.specs.Allocate.{grantedAreas}
-use Rattle.opening.proofs.Sheets.{lent-size, lent-lawful, chunk-back}
+use Rattle.sheet.proofs.Sheets.{lent-size, lent-lawful, chunk-back}
 use Rattle.chunks.proofs.Chunks.{length-grantedChunk}
 use Rattle.chunks.specs.Chunk.{lawfulSize, grantedChunk}
 use Rattle.allocation.proofs.Takings.{ChunkLies, chunk-lies}

@@ -2,7 +2,7 @@
 use mathlib.Core.Path.{sym, _∙_}
 use borrow.Author.Needs.{needs}
 use Rattle.allocation.specs.Allocate.{allocatePlan}
-use Rattle.opening.proofs.Opens.{opened-known}
+use Rattle.sheet.proofs.Opens.{opened-known}
 use Rattle.allocation.proofs.allocate.plan.Statement.{statement}
 use Rattle.allocation.proofs.allocate.plan.Tie as tie
 

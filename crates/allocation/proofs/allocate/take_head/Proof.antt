@@ -6,7 +6,7 @@ use borrow.Author.Needs.{needs}
 use lib.ListN.{length}
 use Rattle.allocation.specs.Allocate.{takenHead}
 use Rattle.area.proofs.Places.{place-found}
-use Rattle.opening.proofs.Sheets.{record-inside, record-word, lent-long}
+use Rattle.sheet.proofs.Sheets.{record-inside, record-word, lent-long}
 use Rattle.words.proofs.Parts.{part-lent}
 use Rattle.allocation.proofs.Takings.{ChunkLies, chunk-lies}
 use Rattle.allocation.proofs.allocate.take_head.Statement.{statement}

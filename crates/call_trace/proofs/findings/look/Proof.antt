@@ -53,9 +53,9 @@ use Rattle.tags.proofs.verdict.Verdict as S
 use Rattle.tags.proofs.verdict.Verdict.Laws as S′
 use Rattle.image.specs.Inspect.{inspectOf}
 use Rattle.image.specs.declared.inspect.Finding.{Finding}
-use Rattle.area.specs.Filling.{Filling, filling}
-use Rattle.area.specs.declared.refusal.Answer.{Answer}
-use Rattle.opening.specs.Areas.{lent}
+use Rattle.tags.specs.Filling.{Filling, filling}
+use Rattle.tags.specs.declared.refusal.Answer.{Answer}
+use Rattle.sheet.specs.Areas.{lent}
 use Rattle.image.proofs.inspect.Finding as T
 use Rattle.image.proofs.inspect.Finding.Laws as T′
 use Rattle.area.proofs.refusal.Answer as I

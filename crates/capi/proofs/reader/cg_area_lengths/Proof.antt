@@ -4,7 +4,7 @@ use native.Mathlib.Omega.{arith}
 use borrow.Author.Tests.{le-leb, lt-leb}
 use borrow.Author.Needs.{needs}
 use Rattle.capi.specs.Reader.{areaLengthsOf}
-use Rattle.opening.proofs.Opens.{lengths-known}
+use Rattle.sheet.proofs.Opens.{lengths-known}
 use Rattle.capi.proofs.reader.cg_area_lengths.Statement.{statement}
 use Rattle.capi.proofs.reader.cg_area_lengths.Tie as tie
 

@@ -4,8 +4,8 @@ use native.Mathlib.Omega.{arith}
 use borrow.Author.Needs.{needs}
 use lib.ListN.{length}
 use Rattle.holding.specs.Free.{freedAreas}
-use Rattle.opening.specs.Areas.{recordAddress}
-use Rattle.opening.proofs.Sheets.{lent-lawful, chunk-back}
+use Rattle.sheet.specs.Geometry.{recordAddress}
+use Rattle.sheet.proofs.Sheets.{lent-lawful, chunk-back}
 use Rattle.chunks.proofs.Chunks.{length-freeChunk}
 use Rattle.chunks.specs.Chunk.{freeChunk}
 use Rattle.holding.proofs.Holdings.{Lies, ready-lies}

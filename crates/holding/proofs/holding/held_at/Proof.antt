@@ -4,7 +4,7 @@ use Prim.Native.Nat.{_+_, _-_, _*_, _≤_, _<_}
 use native.Mathlib.Omega.{arith}
 use borrow.Author.Needs.{needs}
 use lib.ListN.{length}
-use Rattle.opening.proofs.Sheets.{chunk-inside, chunk-small, lent-long}
+use Rattle.sheet.proofs.Sheets.{chunk-inside, chunk-small, lent-long}
 use Rattle.area.proofs.Places.{place-found}
 use Rattle.holding.specs.Holding.{heldAt}
 use Rattle.words.proofs.Parts.{part-lent}

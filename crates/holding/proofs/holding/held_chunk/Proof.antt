@@ -4,7 +4,7 @@ use Prim.Native.Nat.{_<_}
 use native.Mathlib.Omega.{arith}
 use borrow.Author.Tests.{eq-eqb, ne-eqb}
 use borrow.Author.Needs.{needs}
-use Rattle.opening.proofs.Sheets.{record-inside, record-word}
+use Rattle.sheet.proofs.Sheets.{record-inside, record-word}
 use Rattle.area.proofs.Places.{place-found}
 use Rattle.holding.specs.Holding.{heldChunk}
 use Rattle.holding.proofs.holding.held_chunk.Statement.{statement}

@@ -1,7 +1,7 @@
 -- The image is opened, and then the address decides. Assumes nothing.
 use mathlib.Core.Path.{sym, _∙_}
 use borrow.Author.Needs.{needs}
-use Rattle.opening.proofs.Opens.{opened-known}
+use Rattle.sheet.proofs.Opens.{opened-known}
 use Rattle.holding.specs.Holding.{heldOf}
 use Rattle.holding.proofs.holding.hold.Statement.{statement}
 use Rattle.holding.proofs.holding.hold.Tie as tie

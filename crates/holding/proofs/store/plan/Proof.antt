@@ -2,7 +2,7 @@
 use mathlib.Core.Path.{_≡_, sym, _∙_}
 use native.Mathlib.Omega.{arith}
 use borrow.Author.Needs.{needs}
-use Rattle.opening.specs.Areas.{lent}
+use Rattle.sheet.specs.Areas.{lent}
 use Rattle.holding.specs.Holding.{heldOf}
 use Rattle.holding.specs.Store.{storePlan}
 use Rattle.holding.specs.declared.holding.Held.the-variants.{Buffer}

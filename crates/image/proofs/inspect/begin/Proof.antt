@@ -4,9 +4,9 @@ use native.Mathlib.Omega.{arith}
 use borrow.Author.Tests.{lt-leb}
 use borrow.Author.Needs.{needs}
 use lib.ListN.{length}
-use Rattle.opening.specs.Sheet.{Open}
-use Rattle.opening.specs.Areas.{lent}
-use Rattle.opening.proofs.Opens.{opened-known}
+use Rattle.sheet.specs.Opening.{Open}
+use Rattle.sheet.specs.Areas.{lent}
+use Rattle.sheet.proofs.Opens.{opened-known}
 use Rattle.image.specs.Inspect.{inspectOf}
 use Rattle.image.proofs.Findings.{begins-refused, begins-image}
 use Rattle.image.proofs.inspect.begin.Statement.{statement}

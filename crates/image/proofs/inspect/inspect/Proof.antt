@@ -55,7 +55,7 @@ use denote.Triple.Spec.{Meets, tripleOf}
 use denote.Triple.Table.{entered, cited}
 use denote.Triple.Walked.{Stays, stay-slice, walkOf, goes-slice, Walks, ends-at, walked, walk-meets, says}
 use borrow.Author.Tests.{lt-ltb, le-ltb}
-use Rattle.opening.specs.Areas.{lent as lentAreas}
+use Rattle.sheet.specs.Areas.{lent as lentAreas}
 use Rattle.image.specs.Inspect.{filled, foundBy, Begins}
 use Rattle.image.specs.declared.inspect.Finding.{Finding}
 use Rattle.image.specs.declared.inspect.Begun.{Begun}

@@ -6,8 +6,8 @@ use borrow.Author.Needs.{needs}
 use lib.ListN.{length}
 use Rattle.image.specs.Inspect.{surveyOf}
 use Rattle.image.specs.declared.inspect.Start.{Start}
-use Rattle.opening.specs.Sheet.{Open}
-use Rattle.opening.proofs.Opens.{logged-known}
+use Rattle.sheet.specs.Opening.{Open}
+use Rattle.sheet.proofs.Opens.{logged-known}
 use Rattle.image.proofs.inspect.survey.Statement.{statement}
 use Rattle.image.proofs.inspect.survey.Tie as tie
 

@@ -5,8 +5,8 @@ use borrow.Author.Tests.{le-leb, lt-leb}
 use borrow.Author.Needs.{needs}
 use lib.ListN.{length}
 use Rattle.image.specs.Inspect.{tabulateOf}
-use Rattle.opening.specs.Sheet.{Open}
-use Rattle.opening.proofs.Opens.{opened-known}
+use Rattle.sheet.specs.Opening.{Open}
+use Rattle.sheet.proofs.Opens.{opened-known}
 use Rattle.image.proofs.inspect.tabulate.Statement.{statement}
 use Rattle.image.proofs.inspect.tabulate.Tie as tie
 

@@ -8,8 +8,8 @@ use Rattle.image.proofs.Findings.{chain-small}
 use Rattle.image.specs.Numbers.{EndingIf, surveyNumbersOf}
 use Prim.Native.Nat.{_≤_}
 use Rattle.image.specs.declared.inspect.Start.{Start}
-use Rattle.opening.specs.Sheet.{Open}
-use Rattle.opening.proofs.Opens.{logged-known}
+use Rattle.sheet.specs.Opening.{Open}
+use Rattle.sheet.proofs.Opens.{logged-known}
 use Rattle.image.proofs.numbers.survey_numbers.Statement.{statement}
 use Rattle.image.proofs.numbers.survey_numbers.Tie as tie
 

@@ -5,8 +5,8 @@ use borrow.Author.Needs.{needs}
 use lib.ListN.{length}
 use Rattle.chunks.specs.Chunk.{freeChunk}
 use Rattle.chunks.proofs.Chunks.{length-freeChunk}
-use Rattle.opening.specs.Areas.{recordAddress}
-use Rattle.opening.proofs.Sheets.{chunk-inside, chunk-small, chunk-back}
+use Rattle.sheet.specs.Geometry.{recordAddress}
+use Rattle.sheet.proofs.Sheets.{chunk-inside, chunk-small, chunk-back}
 use Rattle.layout.proofs.places.write_chunk.Statement.{statement}
 use Rattle.layout.proofs.places.write_chunk.Tie as tie
 

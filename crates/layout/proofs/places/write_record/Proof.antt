@@ -4,14 +4,14 @@ use Prim.Native.Nat.{_+_, _*_, _≤_, _<_}
 use native.Mathlib.Numerals.{add-one}
 use native.Mathlib.Omega.{arith}
 use borrow.Author.Needs.{needs}
-use Rattle.opening.proofs.Sheets.{chunk-small, buffer-word}
+use Rattle.sheet.proofs.Sheets.{chunk-small, buffer-word}
 use Rattle.layout.specs.Layout.{linkTo}
 use Rattle.layout.proofs.Layouts.{record-run}
 use Rattle.layout.proofs.places.write_record.Statement.{statement}
 use Rattle.layout.proofs.places.write_record.Tie as tie
 
 -- the buffer's offset is small, and its address is a word
-addressed : (s : tie.Start) → let at = s .args .i * s .args .g .chunk in (at ≤ 65536) × (s .args .g .heap + at < 4294967296)
+addressed : (s : tie.Start) → let at = s .args .i * s .args .g .chunk in (at ≤ 65536) × (s .args .g .«heap_base» + at < 4294967296)
 addressed s =
     let law = s .pre .0 in
     let k = chunk-small _ law _ (s .pre .1 .0) in

@@ -2,7 +2,7 @@
 use mathlib.Core.Path.{refl, sym, _∙_}
 use borrow.Author.Needs.{needs}
 use Rattle.transactions.specs.Latest.{latestOf}
-use Rattle.opening.proofs.Opens.{logged-known}
+use Rattle.sheet.proofs.Opens.{logged-known}
 use Rattle.transactions.proofs.latest.find_latest.Statement.{statement}
 use Rattle.transactions.proofs.latest.find_latest.Tie as tie
 

@@ -13,7 +13,7 @@ use Rattle.area.specs.Record.{recordSize, nextAt}
 use Rattle.verdicts.specs.Chain.{meets, chainAfter}
 use Rattle.verdicts.specs.Walk.{unmet}
 use Rattle.area.specs.declared.place.Place.the-variants.{At, Nowhere}
-use Rattle.verdicts.specs.declared.chain.Ending.the-variants.{End, Broken, Again}
+use Rattle.tags.specs.declared.ending.Ending.the-variants.{End, Broken, Again}
 use Rattle.area.proofs.Places.{place-found}
 use Rattle.area.proofs.Records.{record-at}
 use Rattle.verdicts.proofs.Marks.{is-met, not-met, marks-set, unmet-set}

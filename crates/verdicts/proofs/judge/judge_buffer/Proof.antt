@@ -7,9 +7,9 @@ use Rattle.verdicts.specs.Pairing.{OwnIf}
 use Rattle.verdicts.specs.Judge.{judged}
 use Rattle.words.proofs.Parts.{part-lent}
 use Rattle.chunks.specs.Chunk.{ChunkLength}
-use Rattle.opening.specs.Sheet.{heapLength}
-use Rattle.opening.specs.declared.sheet.Sheet.{Sheet}
-use Rattle.opening.proofs.Sheets.{chunk-inside, chunk-small, record-small, record-word, chunk-length}
+use Rattle.sheet.specs.Geometry.{heapLength}
+use Rattle.sheet.specs.declared.geometry.Sheet.{Sheet}
+use Rattle.sheet.proofs.Sheets.{chunk-inside, chunk-small, record-small, record-word, chunk-length}
 use Rattle.verdicts.proofs.judge.judge_buffer.Statement.{statement}
 use Rattle.verdicts.proofs.judge.judge_buffer.Tie as tie
 
@@ -19,7 +19,7 @@ record Known (g : Sheet) (i j : ℕ) : Type 0 where
   chunks : i * g .chunk + g .chunk ≤ heapLength g
   small : i * g .chunk + g .chunk ≤ 65536
   little : j * 96 + 96 ≤ 49152
-  fits : g .records + j * 96 + 96 ≤ 4294967296
+  fits : g .«record_base» + j * 96 + 96 ≤ 4294967296
   long : ChunkLength (g .chunk)
 
 known : (c : tie.After-own) → Known (c .before .before .before .args .g) (c .before .before .before .args .i) (c .own .given .0 .0)

@@ -1,0 +1,11 @@
+-- One word is written at its offset. Assumes nothing.
+use borrow.Author.Needs.{needs}
+use Rattle.area.specs.Record.{withNext}
+use Rattle.area.proofs.record.set_next.Statement.{statement}
+use Rattle.area.proofs.record.set_next.Tie as tie
+
+pub set-next-spec : {M : Type 1} → statement M
+unfolding withNext
+set-next-spec =
+    tie.close
+    (tie.spec (λ c. search needs) (λ c. search needs) (λ c κs. search needs) (λ c. search needs) (λ c. c .before .before .write-u32 .ensures))

@@ -1,0 +1,85 @@
+-- What is known of an image that opens, by the equation of its opening alone. Assumes nothing.
+use mathlib.Core.Path.{_≡_, refl, sym, ap, _∙_, subst}
+use mathlib.Core.Bool.{Bool, true, false, and-eq-true-iff, cond}
+use mathlib.Core.List.{List}
+use Prim.Native.Nat.{ℕ, _%_, _≤_}
+use native.Mathlib.Omega.{arith}
+use borrow.Author.Tests.{eqb-true, leb-true}
+use lib.Dec.{eqb, leb}
+use lib.ListN.{length}
+use Rattle.tags.specs.declared.refusal.Refusal.{Refusal}
+use Rattle.tags.specs.declared.refusal.Refusal.the-variants.{BadSheet, BadNumber, BadLength}
+use Rattle.sheet.specs.Opening.{Open, lengthsRight, areasOf, lengthsOf}
+use Rattle.sheet.specs.Fields.{sheetLength, shaped, sheetOf}
+use Rattle.sheet.specs.Limits.{lawful}
+use Rattle.sheet.specs.Geometry.{heapLength, recordsLength}
+use Rattle.sheet.specs.Opening.{measured, numbered, openedOf, byOpened, logRight, openedWithLog}
+use Rattle.sheet.specs.declared.geometry.Sheet.{Sheet}
+use Rattle.sheet.specs.declared.opening.Lengths.the-variants as lengths
+use Rattle.sheet.specs.declared.opening.Opened.{Opened}
+use Rattle.sheet.specs.declared.opening.Opened.the-variants as opened
+use Rattle.sheet.proofs.Sheets.{lawful-known, shaped-long}
+
+-- numbers that pass the tests 2 and 3
+pub numbered-known : (g : Sheet) (h r : ℕ) (o : Sheet) → numbered g h r ≡ opened.Sheet o → (o ≡ g) × Open h r o
+unfolding numbered measured
+numbered-known g h r o e = go (lawful g) (lengthsRight g h r) refl refl e
+  where
+    go : (a b : Bool) → lawful g ≡ a → lengthsRight g h r ≡ b → cond a (cond b (opened.Sheet g) (opened.Refused BadLength)) (opened.Refused BadNumber) ≡ opened.Sheet o
+        → (o ≡ g) × Open h r o
+    go true true l m f =
+        let z : g ≡ o = cc in
+        let both = and-eq-true-iff _ _ .0 m in
+        (sym z, subst (Open h r) z (record { law = lawful-known g l; heapLong = eqb-true _ _ (both .0); recordsLong = eqb-true _ _ (both .1) }))
+    go true false l m f = absurd (let z : _≡_ {A = ℕ} 0 1 = cc in omega arith)
+    go false b l m f = absurd (let z : _≡_ {A = ℕ} 0 1 = cc in omega arith)
+
+-- a sheet that opens: how long it is, its numbers, and that they are those of the areas
+pub record Opens (s : List ℕ) (h r : ℕ) (g : Sheet) : Type 0 where
+  pub long : length s ≡ sheetLength
+  pub same : g ≡ sheetOf s
+  pub opens : Open h r g
+
+pub opened-known : (s : List ℕ) (h r : ℕ) (g : Sheet) → openedOf s h r ≡ opened.Sheet g → Opens s h r g
+unfolding openedOf
+opened-known s h r g e = go (shaped s) refl e
+  where
+    go : (a : Bool) → shaped s ≡ a → cond a (numbered (sheetOf s) h r) (opened.Refused BadSheet) ≡ opened.Sheet g → Opens s h r g
+    go true q f = let k = numbered-known (sheetOf s) h r g f in record { long = shaped-long s q; same = k .0; opens = k .1 }
+    go false q f = absurd (let z : _≡_ {A = ℕ} 0 1 = cc in omega arith)
+
+-- the same with a log
+pub logged-known : (s : List ℕ) (h r l : ℕ) (g : Sheet) → openedWithLog s h r l ≡ opened.Sheet g → Opens s h r g × (l ≤ 16384)
+unfolding openedWithLog
+logged-known s h r l g e = go (openedOf s h r) (logRight l) refl refl e
+  where
+    go : (o : Opened) (b : Bool) → openedOf s h r ≡ o → logRight l ≡ b → byOpened o (λ x. cond b (opened.Sheet x) (opened.Refused BadLength)) opened.Refused ≡ opened.Sheet g
+        → Opens s h r g × (l ≤ 16384)
+    go (opened.Sheet x) true q k f =
+        let z : x ≡ g = cc in
+        (opened-known s h r g (q ∙ ap opened.Sheet z), leb-true l 16384 (and-eq-true-iff (eqb (l % 16) 0) (leb l 16384) .0 k .1))
+    go (opened.Sheet x) false q k f = absurd (let z : _≡_ {A = ℕ} 0 1 = cc in omega arith)
+    go (opened.Refused why) b q k f = absurd (let z : _≡_ {A = ℕ} 0 1 = cc in omega arith)
+
+-- the lengths that a sheet asks for are small
+pub lengths-known : (s : List ℕ) (h r : ℕ) → lengthsOf s ≡ lengths.Areas h r → (h ≤ 65536) × (r ≤ 49152)
+unfolding lengthsOf areasOf
+lengths-known s h r e = go (shaped s) (lawful (sheetOf s)) refl e
+  where
+    go : (a b : Bool) → lawful (sheetOf s) ≡ b
+        → cond a (cond b (lengths.Areas (heapLength (sheetOf s)) (recordsLength (sheetOf s))) (lengths.Refused BadNumber)) (lengths.Refused BadSheet)
+        ≡ lengths.Areas h r
+        → (h ≤ 65536) × (r ≤ 49152)
+    go true true q f =
+        let l = lawful-known (sheetOf s) q in
+        let x : heapLength (sheetOf s) ≡ h = cc in
+        let y : recordsLength (sheetOf s) ≡ r = cc in
+        (omega (arith, l .sizes .area), omega (arith, l .sizes .few))
+    go true false q f = absurd (let z : _≡_ {A = ℕ} 0 1 = cc in omega arith)
+    go false b q f = absurd (let z : _≡_ {A = ℕ} 0 1 = cc in omega arith)
+
+-- what holds of an image that opens, and of every refusal, holds by the opening
+pub by-opened : {A : Type 0} {f : Sheet → A} {shut : Refusal → A} (P : A → Type 0) (o : Opened)
+    → ((g : Sheet) → o ≡ opened.Sheet g → P (f g)) → ((why : Refusal) → P (shut why)) → P (byOpened o f shut)
+by-opened P (opened.Sheet g) h k = h g refl
+by-opened P (opened.Refused why) h k = k why

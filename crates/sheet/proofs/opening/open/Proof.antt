@@ -1,0 +1,22 @@
+-- The form is tested, and then the numbers that it holds. Assumes nothing.
+use mathlib.Core.Path.{sym, _∙_}
+use borrow.Author.Needs.{needs}
+use Rattle.sheet.proofs.Sheets.{shaped-long}
+use Rattle.sheet.specs.Opening.{openedOf}
+use Rattle.sheet.proofs.opening.open.Statement.{statement}
+use Rattle.sheet.proofs.opening.open.Tie as tie
+
+read-requires : tie.Need-read-requires
+read-requires c κs = shaped-long _ (sym (c .before .is-shaped .ensures) ∙ c .if1 .taken)
+
+returns : tie.Need-returns
+unfolding openedOf
+returns c = rw (← c .before .before .before .is-shaped .ensures, c .before .before .if1 .taken, ← c .before .read .ensures) (c .judge-numbers .ensures)
+
+returns-2 : tie.Need-returns-2
+unfolding openedOf
+returns-2 c = rw (← c .before .is-shaped .ensures, c .if1 .left)
+
+pub open-spec : {M : Type 1} → statement M
+open-spec =
+    tie.close (tie.spec (λ c κs. search needs) read-requires (λ c κs. search needs) returns returns-2)

@@ -1,0 +1,110 @@
+-- The three areas that a call is lent, what a call leaves in them, and the image that they are once they are open. Assumes nothing.
+use mathlib.Core.Path.{_≡_}
+use mathlib.Core.List.{List}
+use Prim.Native.Nat.{ℕ, _+_, _<_}
+use lib.ListN.{length}
+use denote.Ref.{RefT, now}
+use denote.Triple.Both.{Both}
+use Rattle.words.specs.Word.{part}
+use Rattle.tags.specs.declared.refusal.Refusal.{Refusal}
+use Rattle.sheet.specs.Geometry.{chunkPlace}
+use Rattle.sheet.specs.Fields.{sheetLength}
+use Rattle.sheet.specs.Opening.{Open, openedOf, openedWithLog, byOpened}
+use Rattle.sheet.specs.declared.geometry.Sheet.{Sheet}
+use Rattle.sheet.specs.declared.opening.Opened.{Opened}
+
+pub record Areas : Type 0 where
+  pub sheet : List ℕ
+  pub heap : List ℕ
+  pub records : List ℕ
+
+abbrev pub areas : List ℕ → List ℕ → List ℕ → Areas
+areas sheet heap records = record { sheet = sheet; heap = heap; records = records }
+
+-- ---- what a contract says of the areas
+
+-- the bytes that three references lend
+abbrev pub lent : RefT (List ℕ) → RefT (List ℕ) → RefT (List ℕ) → Areas
+lent sheet heap records = areas (now sheet) (now heap) (now records)
+
+-- a slice that a call is lent, as an `ensures` names it: at entry and at exit
+abbrev pub Slice : Type 0
+Slice = Both (RefT (List ℕ)) (RefT (List ℕ))
+
+-- the areas before a call, and after it
+abbrev pub before : Slice → Slice → Slice → Areas
+before sheet heap records = lent (sheet .entry) (heap .entry) (records .entry)
+
+abbrev pub after : Slice → Slice → Slice → Areas
+after sheet heap records = lent (sheet .exit) (heap .exit) (records .exit)
+
+-- what is said of the lengths of the three areas
+abbrev pub byLengths : {A : Type 1} → (ℕ → ℕ → ℕ → A) → Areas → A
+byLengths f a = f (length (a .sheet)) (length (a .heap)) (length (a .records))
+
+-- ---- what a call gives
+
+-- K1 (all that a call writes): what it answers, and the areas afterwards
+pub record Result (A : Type 0) : Type 0 where
+  pub answer : A
+  pub areas : Areas
+
+abbrev pub result : {A : Type 0} → A → Areas → Result A
+result answer a = record { answer = answer; areas = a }
+
+-- E1 (a refused call leaves every lent byte)
+abbrev pub refusedWith : {A : Type 0} → A → Areas → Result A
+refusedWith answer a = result answer a
+
+-- the same, with the answer in another form
+abbrev pub answered : {A B : Type 0} → (A → B) → Result A → Result B
+answered f r = result (f (r .answer)) (r .areas)
+
+-- ---- an image
+
+-- the numbers of an open image, and the bytes of its heap and its records
+pub record Image : Type 0 where
+  pub sheet : Sheet
+  pub heap : List ℕ
+  pub records : List ℕ
+
+abbrev pub image : Sheet → List ℕ → List ℕ → Image
+image g heap records = record { sheet = g; heap = heap; records = records }
+
+-- the image that the areas are, once the sheet's numbers are known
+abbrev pub imageOf : Areas → Sheet → Image
+imageOf a g = image g (a .heap) (a .records)
+
+-- the same of two references
+abbrev pub imageIn : Sheet → RefT (List ℕ) → RefT (List ℕ) → Image
+imageIn g heap records = image g (now heap) (now records)
+
+-- E3 (X1, X2, X3): whether the areas of a call are an image, and with a log of l bytes
+abbrev pub opening : Areas → Opened
+opening a = openedOf (a .sheet) (length (a .heap)) (length (a .records))
+
+abbrev pub openingWithLog : Areas → ℕ → Opened
+openingWithLog a l = openedWithLog (a .sheet) (length (a .heap)) (length (a .records)) l
+
+-- by whether the areas are an image, as one of the two tells
+abbrev pub byImage : {A : Type 0} → Opened → Areas → (Image → A) → (Refusal → A) → A
+byImage o a f shut = byOpened o (λ g. f (imageOf a g)) shut
+
+-- A1 (the chunk of buffer i), in a heap and in an image
+abbrev pub chunkIn : Sheet → List ℕ → ℕ → List ℕ
+chunkIn g heap i = part heap (chunkPlace g i) (g .chunk)
+
+abbrev pub chunkAt : Image → ℕ → List ℕ
+chunkAt m i = chunkIn (m .sheet) (m .heap) i
+
+-- L4, K10 (a part of the area it lies in): a part that starts `at` bytes behind the area's own start; a reference is an allocation and an offset in it
+abbrev pub PartAt : RefT (List ℕ) → ℕ → RefT (List ℕ) → Type 0
+PartAt area at p = (p .ptr .0 ≡ area .ptr .0) × (p .ptr .1 ≡ area .ptr .1 + at)
+
+-- ---- what a plan promises to who carries it out: all that is written for buffer i and record j lies in the areas, of s, h and r bytes
+
+pub record Within (s h r : ℕ) (g : Sheet) (i j : ℕ) : Type 0 where
+  pub long : s ≡ sheetLength
+  pub opened : Open h r g
+  pub buffer : i < g .count
+  pub own : j < g .count

@@ -1,0 +1,5 @@
+pub mod Geometry
+pub mod Fields
+pub mod Limits
+pub mod Opening
+pub mod Areas

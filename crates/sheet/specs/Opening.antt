@@ -1,0 +1,59 @@
+-- The opening of an image by X1, X2 and X3. Assumes nothing.
+use mathlib.Core.Path.{_≡_}
+use mathlib.Core.Bool.{Bool, _&&_, cond}
+use mathlib.Core.List.{List}
+use Prim.Native.Nat.{ℕ, _%_}
+use lib.Dec.{eqb, leb}
+use Rattle.tags.specs.declared.refusal.Refusal.{Refusal}
+use Rattle.tags.specs.declared.refusal.Refusal.the-variants.{BadSheet, BadNumber, BadLength}
+use Rattle.sheet.specs.Geometry.{heapLength, recordsLength}
+use Rattle.sheet.specs.Fields.{shaped, sheetOf}
+use Rattle.sheet.specs.Limits.{lawful, Lawful}
+use Rattle.sheet.specs.declared.geometry.Sheet.{Sheet}
+use Rattle.sheet.specs.declared.opening.Lengths.{Lengths}
+use Rattle.sheet.specs.declared.opening.Lengths.the-variants as lengths
+use Rattle.sheet.specs.declared.opening.Opened.{Opened}
+use Rattle.sheet.specs.declared.opening.Opened.the-variants as opened
+
+-- ---- X3: the lengths, and the opening
+
+-- X3 (the lengths of A1 and A2)
+abbrev pub lengthsRight : Sheet → ℕ → ℕ → Bool
+lengthsRight g h r = eqb h (heapLength g) && eqb r (recordsLength g)
+
+-- E3 (first X1, X2, X3): the sheet's numbers, or the first refusal that holds, for areas of h and r bytes
+unfoldable pub measured : Sheet → ℕ → ℕ → Opened
+measured g h r = cond (lengthsRight g h r) (opened.Sheet g) (opened.Refused BadLength)
+
+unfoldable pub numbered : Sheet → ℕ → ℕ → Opened
+numbered g h r = cond (lawful g) (measured g h r) (opened.Refused BadNumber)
+
+unfoldable pub openedOf : List ℕ → ℕ → ℕ → Opened
+openedOf s h r = cond (shaped s) (numbered (sheetOf s) h r) (opened.Refused BadSheet)
+
+-- by whether an image is open
+abbrev pub byOpened {ℓ} : {A : Type ℓ} → Opened → (Sheet → A) → (Refusal → A) → A
+byOpened (opened.Sheet g) f shut = f g
+byOpened (opened.Refused why) f shut = shut why
+
+-- A4, X3 (the log: a multiple of 16, at most 16,384), E3 (X3 tests the log where one is given)
+abbrev pub logRight : ℕ → Bool
+logRight l = eqb (l % 16) 0 && leb l 16384
+
+unfoldable pub openedWithLog : List ℕ → ℕ → ℕ → ℕ → Opened
+openedWithLog s h r l = byOpened (openedOf s h r) (λ g. cond (logRight l) (opened.Sheet g) (opened.Refused BadLength)) opened.Refused
+
+-- what is known of an open image: its sheet is lawful, and its areas are as long as the sheet says
+pub record Open (h r : ℕ) (g : Sheet) : Type 0 where
+  pub law : Lawful g
+  pub heapLong : h ≡ heapLength g
+  pub recordsLong : r ≡ recordsLength g
+
+-- ---- the lengths that a sheet asks for
+
+unfoldable pub areasOf : Sheet → Lengths
+areasOf g = cond (lawful g) (lengths.Areas (heapLength g) (recordsLength g)) (lengths.Refused BadNumber)
+
+-- K13 (area lengths): X1 and X2, and then the lengths that X3 asks for
+unfoldable pub lengthsOf : List ℕ → Lengths
+lengthsOf s = cond (shaped s) (areasOf (sheetOf s)) (lengths.Refused BadSheet)

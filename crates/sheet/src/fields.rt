@@ -1,0 +1,160 @@
+// The bytes of a sheet: eight tagged fields, one after the other. Where each stands follows from the lengths of those before it.
+ghost use mathlib.Core.Path.{_≡_};
+ghost use mathlib.Core.List.{_++_};
+ghost use Prim.Native.Nat.{_+_, _≤_};
+ghost use lib.ListN.{length};
+ghost use lib.Seq.{sets};
+ghost use Rattle.sheet.specs.Fields.{fieldNumber, fieldIs, shaped, sheetOf, field, sheetBytes, sheetLength, withHead};
+ghost use Rattle.sheet.specs.Limits.{Lawful};
+use crate::geometry::Sheet;
+use words::word;
+
+// What a field has before its body, and with a body of four bytes, of two.
+const BEFORE: usize = 3;
+
+const LONG: usize = BEFORE + 4;
+
+const SHORT: usize = BEFORE + 2;
+
+// Where each field starts.
+const CACHE: usize = 0;
+
+const HEAP_BASE: usize = CACHE + LONG;
+
+const RECORD_BASE: usize = HEAP_BASE + LONG;
+
+const SIZE: usize = RECORD_BASE + LONG;
+
+const CHUNK: usize = SIZE + SHORT;
+
+const COUNT: usize = CHUNK + SHORT;
+
+const HEAD: usize = COUNT + SHORT;
+
+const FLAGS: usize = HEAD + LONG;
+
+pub const LENGTH: usize = FLAGS + SHORT;
+
+// Whether the field at an offset has a tag and a length.
+fn field_is(s: &[u8], at: usize, tag: u8, len: u16) -> bool
+    requires { ⌜ at + 3 ≤ length (now s) ⌝ }
+    ensures { λ r. ⌜ r ≡ fieldIs (now (s .entry)) at tag len ⌝ }
+{
+    if word::read_u8(s, at) != tag {
+        return false;
+    }
+    word::read_u16(s, at + 1) == len
+}
+
+// Whether the sheet has its length and the stated tags and lengths.
+pub(crate) fn is_shaped(s: &[u8]) -> bool
+    ensures { λ r. ⌜ r ≡ shaped (now (s .entry)) ⌝ }
+{
+    if s.len() != LENGTH {
+        return false;
+    }
+    field_is(s, CACHE, 1, 4)
+        & field_is(s, HEAP_BASE, 2, 4)
+        & field_is(s, RECORD_BASE, 3, 4)
+        & field_is(s, SIZE, 4, 2)
+        & field_is(s, CHUNK, 5, 2)
+        & field_is(s, COUNT, 6, 2)
+        & field_is(s, HEAD, 7, 4)
+        & field_is(s, FLAGS, 8, 2)
+}
+
+// The body, of two bytes, of the field at an offset.
+fn short_body(s: &[u8], at: usize) -> u16
+    requires { ⌜ at + 5 ≤ length (now s) ⌝ }
+    ensures { λ r. ⌜ r ≡ fieldNumber 2 (now (s .entry)) (at + 3) ⌝ }
+{
+    word::read_u16(s, at + BEFORE)
+}
+
+// The body, of four bytes, of the field at an offset.
+fn long_body(s: &[u8], at: usize) -> u32
+    requires { ⌜ at + 7 ≤ length (now s) ⌝ }
+    ensures { λ r. ⌜ r ≡ fieldNumber 4 (now (s .entry)) (at + 3) ⌝ }
+{
+    word::read_u32(s, at + BEFORE)
+}
+
+// The numbers in the fields' bodies.
+pub(crate) fn read(s: &[u8]) -> Sheet
+    requires { ⌜ length (now s) ≡ sheetLength ⌝ }
+    ensures { λ r. ⌜ r ≡ sheetOf (now (s .entry)) ⌝ }
+{
+    Sheet {
+        cache: long_body(s, CACHE),
+        heap_base: long_body(s, HEAP_BASE),
+        record_base: long_body(s, RECORD_BASE),
+        size: short_body(s, SIZE) as usize,
+        chunk: short_body(s, CHUNK) as usize,
+        count: short_body(s, COUNT) as usize,
+        head: long_body(s, HEAD),
+        flags: short_body(s, FLAGS) as u32,
+    }
+}
+
+// Writes a field whose body is a number of two bytes.
+fn write_short(s: &mut [u8], at: usize, tag: u8, body: u16)
+    requires { ⌜ at + 5 ≤ length (now s) ⌝ }
+    ensures { λ _. ⌜ now (s .exit) ≡ sets (now (s .entry)) at (field tag 2 body) ⌝ }
+{
+    word::write_u8(s, at, tag);
+    word::write_u16(s, at + 1, 2);
+    word::write_u16(s, at + 3, body);
+}
+
+// Writes a field whose body is a number of four bytes.
+fn write_long(s: &mut [u8], at: usize, tag: u8, body: u32)
+    requires { ⌜ at + 7 ≤ length (now s) ⌝ }
+    ensures { λ _. ⌜ now (s .exit) ≡ sets (now (s .entry)) at (field tag 4 body) ⌝ }
+{
+    word::write_u8(s, at, tag);
+    word::write_u16(s, at + 1, 4);
+    word::write_u32(s, at + 3, body);
+}
+
+// Writes the first three fields, the addresses.
+fn write_addresses(s: &mut [u8], g: Sheet)
+    requires { ⌜ length (now s) ≡ sheetLength ⌝ }
+    ensures { λ _. ⌜ now (s .exit) ≡ sets (now (s .entry)) 0
+        (field 1 4 (g .cache) ++ field 2 4 (g .«heap_base») ++ field 3 4 (g .«record_base»)) ⌝ }
+{
+    write_long(s, CACHE, 1, g.cache);
+    write_long(s, HEAP_BASE, 2, g.heap_base);
+    write_long(s, RECORD_BASE, 3, g.record_base);
+}
+
+// Writes the next three, the sizes and the count.
+fn write_sizes(s: &mut [u8], g: Sheet)
+    requires { ⌜ length (now s) ≡ sheetLength ⌝ }
+    requires { ⌜ Lawful g ⌝ }
+    ensures { λ _. ⌜ now (s .exit)
+        ≡ sets (now (s .entry)) 21 (field 4 2 (g .size) ++ field 5 2 (g .chunk) ++ field 6 2 (g .count)) ⌝ }
+{
+    write_short(s, SIZE, 4, g.size as u16);
+    write_short(s, CHUNK, 5, g.chunk as u16);
+    write_short(s, COUNT, 6, g.count as u16);
+}
+
+// Writes the whole sheet: the addresses, the sizes, the chain head and the flags.
+pub fn write(s: &mut [u8], g: Sheet)
+    requires { ⌜ length (now s) ≡ sheetLength ⌝ }
+    requires { ⌜ Lawful g ⌝ }
+    ensures { λ _. ⌜ now (s .exit) ≡ sheetBytes g ⌝ }
+{
+    write_addresses(s, g);
+    write_sizes(s, g);
+    write_long(s, HEAD, 7, g.head);
+    write_short(s, FLAGS, 8, g.flags as u16);
+}
+
+// Writes the chain head of a sheet.
+pub fn set_head(s: &mut [u8], head: u32)
+    requires { ⌜ length (now s) ≡ sheetLength ⌝ }
+    ensures { λ _. ⌜ now (s .exit) ≡ withHead (now (s .entry)) head ⌝ }
+{
+    word::write_u32(s, HEAD + BEFORE, head);
+}

@@ -1,0 +1,93 @@
+// The opening of an image: every call begins with the tests 1, 2 and 3.
+ghost use mathlib.Core.Path.{_≡_};
+ghost use Rattle.sheet.specs.Limits.{Lawful};
+ghost use Rattle.sheet.specs.Opening.{measured, numbered, openedOf, openedWithLog, areasOf, lengthsOf};
+use crate::fields;
+use crate::geometry::Sheet;
+use crate::limits;
+use tags::refusal::Refusal;
+
+// An image that passed the tests 1 to 3, or why it did not.
+pub enum Opened {
+    Sheet(Sheet),
+    Refused(Refusal),
+}
+
+// The lengths of the heap and of the record area, as a sheet has them, or why it has none.
+pub enum Lengths {
+    Areas(usize, usize),
+    Refused(Refusal),
+}
+
+// The last step of the opening: the areas' lengths.
+fn measure(g: Sheet, heap_len: usize, records_len: usize) -> Opened
+    requires { ⌜ Lawful g ⌝ }
+    ensures { λ r. ⌜ r ≡ measured g «heap_len» «records_len» ⌝ }
+{
+    if heap_len != g.heap_length() {
+        return Opened::Refused(Refusal::BadLength);
+    }
+    if records_len != g.records_length() {
+        return Opened::Refused(Refusal::BadLength);
+    }
+    Opened::Sheet(g)
+}
+
+// The step before it: the sheet's numbers.
+pub fn judge_numbers(g: Sheet, heap_len: usize, records_len: usize) -> Opened
+    ensures { λ r. ⌜ r ≡ numbered g «heap_len» «records_len» ⌝ }
+{
+    if limits::is_lawful(g) {
+        return measure(g, heap_len, records_len);
+    }
+    Opened::Refused(Refusal::BadNumber)
+}
+
+// Opens an image whose areas have these lengths.
+pub fn open(sheet: &[u8], heap_len: usize, records_len: usize) -> Opened
+    ensures { λ r. ⌜ r ≡ openedOf (now (sheet .entry)) «heap_len» «records_len» ⌝ }
+{
+    if fields::is_shaped(sheet) {
+        return judge_numbers(fields::read(sheet), heap_len, records_len);
+    }
+    Opened::Refused(Refusal::BadSheet)
+}
+
+// The same where a log is given too.
+pub fn open_with_log(sheet: &[u8], heap_len: usize, records_len: usize, log_len: usize) -> Opened
+    ensures { λ r. ⌜ r ≡ openedWithLog (now (sheet .entry)) «heap_len» «records_len» «log_len» ⌝ }
+{
+    let opened = open(sheet, heap_len, records_len);
+    match opened {
+        Opened::Refused(why) => Opened::Refused(why),
+        Opened::Sheet(g) => {
+            if log_len % 16 != 0 {
+                return Opened::Refused(Refusal::BadLength);
+            }
+            if 16384 < log_len {
+                return Opened::Refused(Refusal::BadLength);
+            }
+            Opened::Sheet(g)
+        }
+    }
+}
+
+// The lengths of the areas, by the sheet's numbers.
+fn measure_areas(g: Sheet) -> Lengths
+    ensures { λ r. ⌜ r ≡ areasOf g ⌝ }
+{
+    if limits::is_lawful(g) {
+        return Lengths::Areas(g.heap_length(), g.records_length());
+    }
+    Lengths::Refused(Refusal::BadNumber)
+}
+
+// How long the areas of an image are, for a caller that has only its sheet yet.
+pub fn area_lengths(sheet: &[u8]) -> Lengths
+    ensures { λ r. ⌜ r ≡ lengthsOf (now (sheet .entry)) ⌝ }
+{
+    if fields::is_shaped(sheet) {
+        return measure_areas(fields::read(sheet));
+    }
+    Lengths::Refused(Refusal::BadSheet)
+}
