@@ -2,13 +2,13 @@
 use crate::findings;
 use crate::lines;
 use allocation::allocate;
-use tags::refusal::Answer;
 use chunks::chunk::Grant;
 use holding::free;
 use holding::show;
 use holding::show::Shown;
 use holding::store;
 use image::inspect::Finding;
+use tags::refusal::Answer;
 use tags::verdict;
 use transactions::latest;
 use transactions::latest::Transaction;

@@ -4,9 +4,9 @@ ghost use mathlib.Core.Path.{_≡_};
 ghost use Prim.Native.Nat.{_<_};
 ghost use Rattle.sheet.specs.Areas.{before};
 ghost use Rattle.call_trace.specs.Findings.{seenOf};
-use tags::refusal::Answer;
 use image::inspect;
 use image::inspect::Finding;
+use tags::refusal::Answer;
 use tags::verdict::Verdict;
 
 // What an inspection answers, and one row of its findings.

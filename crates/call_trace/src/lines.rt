@@ -1,7 +1,7 @@
 // The words and numbers of a line, on standard output.
+use libc::STDOUT_FILENO;
 use tags::refusal;
 use tags::refusal::Refusal;
-use libc::STDOUT_FILENO;
 
 // Writes a word.
 pub(crate) fn put_word(word: &[u8]) {

@@ -12,12 +12,12 @@ ghost use Rattle.capi.specs.Reader.{areaLengthsOf, surveyWord};
 use crate::answer::accepted;
 use crate::answer::refused;
 use crate::answer::word;
-use tags::refusal::Refusal;
 use image::inspect;
 use image::numbers;
+use report::answer;
 use sheet::opening;
 use sheet::opening::Lengths;
-use report::answer;
+use tags::refusal::Refusal;
 use transactions::latest;
 use transactions::latest::Transaction;
 

@@ -11,15 +11,15 @@ ghost use Rattle.verdicts.specs.Pairing.{Paired};
 ghost use Rattle.verdicts.specs.Walk.{marksOf};
 ghost use Rattle.verdicts.specs.Judge.{imageChain};
 ghost use Rattle.image.specs.Inspect.{inspectOf, foundBy, started, Ready, Begins, numbersOf, rowsOf, tableOf, tabulateOf, surveyOf};
-use tags::refusal::Answer;
-use tags::refusal::Refusal;
+use sheet::geometry::Sheet;
 use sheet::opening;
 use sheet::opening::Opened;
-use sheet::geometry::Sheet;
+use tags::ending::Ending;
+use tags::refusal::Answer;
+use tags::refusal::Refusal;
 use tags::verdict;
 use tags::verdict::Verdict;
 use verdicts::chain;
-use tags::ending::Ending;
 use verdicts::judge;
 use verdicts::pairing;
 
@@ -95,7 +95,14 @@ fn note(records: &[u8], g: Sheet) -> Begun
     ensures marks { λ r. ⌜ r .marks ≡ marksOf 512 (imageChain g (now (records .entry)) .met) ⌝ }
 {
     let mut pairs = [0u16; 512];
-    pairing::pair(records, g.record_base, g.heap_base, g.chunk, g.count, &mut pairs);
+    pairing::pair(
+        records,
+        g.record_base,
+        g.heap_base,
+        g.chunk,
+        g.count,
+        &mut pairs,
+    );
     let mut marks = [0u8; 512];
     let walked = chain::walk_from(records, g.record_base, g.count, g.head, &mut marks);
     let met = walked.met;

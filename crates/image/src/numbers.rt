@@ -6,11 +6,11 @@ ghost use lib.Seq.{sets};
 ghost use Rattle.sheet.specs.Areas.{before};
 ghost use Rattle.image.specs.Numbers.{EndingIf, endingNumber, endingValue, chainNumbers, numbering, surveyNumbersOf};
 use crate::inspect;
-use tags::refusal::Answer;
-use tags::refusal::Refusal;
 use sheet::opening;
 use sheet::opening::Opened;
 use tags::ending::Ending;
+use tags::refusal::Answer;
+use tags::refusal::Refusal;
 
 // The number of a chain's ending.
 fn ending_number(e: Ending) -> u32

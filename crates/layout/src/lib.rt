@@ -6,11 +6,11 @@ ghost use mathlib.Core.Path.{_≡_};
 ghost use Rattle.sheet.specs.Areas.{lent, before, after, byLengths, result};
 ghost use Rattle.layout.specs.Layout.{laidAreas, layOutOf, layOutPlan, Planned};
 ghost use Rattle.sheet.specs.Geometry.{laidSheet};
-use tags::refusal::Answer;
-use tags::refusal::Refusal;
+use sheet::geometry::Sheet;
 use sheet::opening;
 use sheet::opening::Opened;
-use sheet::geometry::Sheet;
+use tags::refusal::Answer;
+use tags::refusal::Refusal;
 
 // The bytes of the sheet.
 mod fields;

@@ -7,9 +7,9 @@ ghost use lib.ListN.{length};
 ghost use Rattle.lines.specs.Text.{decimalOf, headerOf, hasOffset, faultLineOf, lineOf, chainLineOf, faultOf, faultsOf, labelled, rowsText, Put, writing, WrittenIf, refusalLineOf};
 ghost use Rattle.tags.specs.Filling.{filling};
 ghost use Rattle.tags.specs.Refusal.{refusalNumber};
+use tags::ending::Ending;
 use tags::refusal;
 use tags::refusal::Refusal;
-use tags::ending::Ending;
 use words::run;
 
 // How long the text is, where the output has room for it.

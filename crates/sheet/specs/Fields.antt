@@ -97,11 +97,13 @@ fieldsBytes [] bodies = []
 fieldsBytes (f ∷ fs) [] = []
 fieldsBytes (f ∷ fs) (b ∷ bodies) = field (f .tag) (f .len) b ++ fieldsBytes fs bodies
 
--- S2 (the bodies, in order): the bytes of a sheet
+-- S2 (the bodies, in order)
+abbrev pub bodiesOf : Sheet → List ℕ
+bodiesOf g = g .cache ∷ g .«heap_base» ∷ g .«record_base» ∷ g .size ∷ g .chunk ∷ g .count ∷ g .head ∷ g .flags ∷ []
+
+-- S1, S2 (the bytes of a sheet)
 unfoldable pub sheetBytes : Sheet → List ℕ
-sheetBytes g =
-    fieldsBytes fields
-    (g .cache ∷ g .«heap_base» ∷ g .«record_base» ∷ g .size ∷ g .chunk ∷ g .count ∷ g .head ∷ g .flags ∷ [])
+sheetBytes g = fieldsBytes fields (bodiesOf g)
 
 -- S2 (where the chain head stands): a sheet with another head
 unfoldable pub withHead : List ℕ → ℕ → List ℕ

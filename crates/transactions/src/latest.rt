@@ -10,10 +10,10 @@ ghost use Rattle.sheet.specs.Geometry.{bufferAddress};
 ghost use Rattle.transactions.specs.Latest.{rowSize, considered, latestRow, firstBest, ownedLatest, indexedLatest, latestOf, latestPart, LatestPlace};
 use area::place::Place;
 use area::record;
-use tags::refusal::Refusal;
+use sheet::geometry::Sheet;
 use sheet::opening;
 use sheet::opening::Opened;
-use sheet::geometry::Sheet;
+use tags::refusal::Refusal;
 use tags::verdict::Verdict;
 use verdicts::pairing;
 use verdicts::pairing::Own;
@@ -98,7 +98,14 @@ fn own_of(records: &[u8], g: Sheet, i: usize) -> Own
     ensures { λ r. ⌜ r ≡ ownOf (now (records .entry)) (g .count) (bufferAddress g i) ⌝ }
 {
     let mut pairs = [0u16; 512];
-    pairing::pair(records, g.record_base, g.heap_base, g.chunk, g.count, &mut pairs);
+    pairing::pair(
+        records,
+        g.record_base,
+        g.heap_base,
+        g.chunk,
+        g.count,
+        &mut pairs,
+    );
     pairing::own_record(&pairs, i)
 }
 

@@ -7,12 +7,12 @@ ghost use Rattle.sheet.specs.Limits.{Lawful};
 ghost use Rattle.sheet.specs.Geometry.{heapLength};
 ghost use Rattle.verdicts.specs.Judge.{ownedVerdict, chainedVerdict, againAt, judged, marked};
 ghost use Rattle.verdicts.specs.Pairing.{OwnIf};
-use tags::ending::Ending;
 use crate::pairing::Own;
 use area::record;
 use chunks::chunk;
 use chunks::judge;
 use sheet::geometry::Sheet;
+use tags::ending::Ending;
 use tags::tag::Pattern;
 use tags::verdict::Verdict;
 

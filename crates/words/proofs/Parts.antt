@@ -10,7 +10,7 @@ use native.Mathlib.Numerals.{add-one}
 use native.Mathlib.Omega.{arith}
 use lib.ListN.{length, take, drop, getD, set, length-take, length-drop, length-append, length-set, take-append-drop, drop-of-length-le}
 use lib.Seq.{sets, sets-eq, length-sets, take-take, take-length, drop-length, drop-drop, drop-append-le, drop-append-add, take-append-le, take-append-seam}
-use lib.Seq.{drop-at, length-take-le, drop-set-add, take-set-le, take-set-lt, drop-set-lt, drop-cons, getD-take, getD-drop, set-append-left}
+use lib.Seq.{take-at, drop-at, length-take-le, drop-set-add, take-set-le, take-set-lt, drop-set-lt, drop-cons, getD-take, getD-drop, set-append-left}
 use Rattle.words.specs.Word.{part, flat}
 
 -- ---- a part of a list
@@ -90,12 +90,24 @@ pub sets-three : (l p q r : List ℕ) (at i j : ℕ) {a b c : List ℕ} → at +
 sets-three l p q r at i j {a} {b} {c} ei ej ea eb ec =
     sets-next l (p ++ q) r at (length p + length q) j (sets-next l p q at (length p) i ea refl ei eb) (length-append p q) (omega arith) ec
 
+set-append-add : (xs ys : List ℕ) (at o a : ℕ) → length xs + o ≡ at → set (xs ++ ys) at a ≡ xs ++ set ys o a
+set-append-add [] ys at o a e = ap (λ (k : ℕ). set ys k a) (omega arith)
+set-append-add (x ∷ xs) ys zero o a e = absurd (omega arith)
+set-append-add (x ∷ xs) ys (suc at) o a e = ap (λ (r : List ℕ). x ∷ r) (set-append-add xs ys at o a (omega arith))
+
 -- a run written in the first of two lists
 sets-left : (vs xs ys : List ℕ) (o : ℕ) → o + length vs ≤ length xs → sets (xs ++ ys) o vs ≡ sets xs o vs ++ ys
 sets-left [] xs ys o h = refl
 sets-left (a ∷ vs) xs ys o h =
     ap (λ (x : List ℕ). sets x (suc o) vs) (set-append-left xs ys o a (omega arith))
     ∙ sets-left vs (set xs o a) ys (suc o) (omega (arith, length-set xs o a))
+
+-- and in the second
+pub sets-right : (xs ys vs : List ℕ) (at o : ℕ) → length xs + o ≡ at → sets (xs ++ ys) at vs ≡ xs ++ sets ys o vs
+sets-right xs ys [] at o e = refl
+sets-right xs ys (a ∷ vs) at o e =
+    ap (λ (x : List ℕ). sets x (suc at) vs) (set-append-add xs ys at o a e)
+    ∙ sets-right xs (set ys o a) vs (suc at) (suc o) (omega arith)
 
 -- a run written at the front
 pub sets-front : (l vs : List ℕ) → length vs ≤ length l → sets l 0 vs ≡ vs ++ drop (length vs) l
@@ -104,6 +116,17 @@ sets-front l vs h = sets-eq vs l 0 (omega arith) ∙ ap (λ (n : ℕ). vs ++ dro
 -- a list that is written over whole
 pub sets-whole : (l vs : List ℕ) → length vs ≡ length l → sets l 0 vs ≡ vs
 sets-whole l vs e = sets-front l vs (omega arith) ∙ ap (λ (r : List ℕ). vs ++ r) (rw e (drop-length l)) ∙ append-nil vs
+
+-- a run written over one as long, between two others
+pub sets-mid : (xs ys zs vs : List ℕ) (at : ℕ) → length xs ≡ at → length ys ≡ length vs → sets (xs ++ (ys ++ zs)) at vs ≡ xs ++ (vs ++ zs)
+sets-mid xs ys zs vs at ex ey =
+    let l = xs ++ (ys ++ zs) in
+    let e : length (xs ++ ys) ≡ at + length vs = omega (arith, length-append xs ys) in
+    sets-eq vs l at (omega (arith, length-append xs (ys ++ zs), length-append ys zs))
+    ∙ ap (λ (r : List ℕ). r ++ vs ++ drop (at + length vs) l) (take-at xs (ys ++ zs) at ex)
+    ∙ ap (λ (r : List ℕ). xs ++ vs ++ drop (at + length vs) r) (sym (append-assoc xs ys zs))
+    ∙ ap (λ (r : List ℕ). xs ++ vs ++ r) (drop-at (xs ++ ys) zs (at + length vs) e)
+    ∙ append-assoc xs vs zs
 
 -- a run written over a run
 pub sets-over : (l vs ws : List ℕ) (o : ℕ) → o + length ws ≤ length vs → length vs ≤ length l → sets (sets l 0 vs) o ws ≡ sets l 0 (sets vs o ws)
