@@ -2,3 +2,4 @@ pub mod Places
 pub mod Records
 pub mod Placed
 pub mod Steps
+pub mod Logs

@@ -1,4 +1,4 @@
-// What stands in the areas of an image: places at addresses, and the words of a record.
+// What stands in the areas of an image: places at addresses, and the formats of a record and of the log.
 //
 // The layer promises: a word is the address of a place, a record's or a buffer's, or it is not; a record's words are read through
 // an address window; a record is written whole, or its next word, or its stamp.
@@ -6,5 +6,8 @@
 // Which place of an area an address is.
 pub mod place;
 
-// The words of a record.
+// The format of a record.
 pub mod record;
+
+// The format of the log.
+pub mod log;

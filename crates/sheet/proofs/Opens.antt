@@ -2,7 +2,7 @@
 use mathlib.Core.Path.{_≡_, refl, sym, ap, _∙_, subst}
 use mathlib.Core.Bool.{Bool, true, false, and-eq-true-iff, cond}
 use mathlib.Core.List.{List}
-use Prim.Native.Nat.{ℕ, _%_, _≤_}
+use Prim.Native.Nat.{ℕ, _≤_}
 use native.Mathlib.Omega.{arith}
 use borrow.Author.Tests.{eqb-true, leb-true}
 use lib.Dec.{eqb, leb}
@@ -13,7 +13,9 @@ use Rattle.sheet.specs.Opening.{Open, lengthsRight, areasOf, lengthsOf}
 use Rattle.sheet.specs.Fields.{sheetLength, shaped, sheetOf}
 use Rattle.sheet.specs.Limits.{lawful}
 use Rattle.sheet.specs.Geometry.{heapLength, recordsLength}
-use Rattle.sheet.specs.Opening.{measured, numbered, openedOf, byOpened, logRight, openedWithLog}
+use Rattle.sheet.specs.Opening.{measured, numbered, openedOf, byOpened, openedWithLog}
+use Rattle.area.specs.Log.{logMost, logRight}
+use Rattle.area.proofs.Logs.{log-most}
 use Rattle.sheet.specs.declared.geometry.Sheet.{Sheet}
 use Rattle.sheet.specs.declared.opening.Lengths.the-variants as lengths
 use Rattle.sheet.specs.declared.opening.Opened.{Opened}
@@ -49,15 +51,16 @@ opened-known s h r g e = go (shaped s) refl e
     go false q f = absurd (let z : _≡_ {A = ℕ} 0 1 = cc in omega arith)
 
 -- the same with a log
-pub logged-known : (s : List ℕ) (h r l : ℕ) (g : Sheet) → openedWithLog s h r l ≡ opened.Sheet g → Opens s h r g × (l ≤ 16384)
+pub logged-known : (s : List ℕ) (h r l : ℕ) (g : Sheet) → openedWithLog s h r l ≡ opened.Sheet g → Opens s h r g × (l ≤ logMost)
 unfolding openedWithLog
 logged-known s h r l g e = go (openedOf s h r) (logRight l) refl refl e
   where
-    go : (o : Opened) (b : Bool) → openedOf s h r ≡ o → logRight l ≡ b → byOpened o (λ x. cond b (opened.Sheet x) (opened.Refused BadLength)) opened.Refused ≡ opened.Sheet g
-        → Opens s h r g × (l ≤ 16384)
+    go : (o : Opened) (b : Bool) → openedOf s h r ≡ o → logRight l ≡ b → byOpened o (λ x. cond b (opened.Sheet x) (opened.Refused BadLength)) opened.Refused
+        ≡ opened.Sheet g
+        → Opens s h r g × (l ≤ logMost)
     go (opened.Sheet x) true q k f =
         let z : x ≡ g = cc in
-        (opened-known s h r g (q ∙ ap opened.Sheet z), leb-true l 16384 (and-eq-true-iff (eqb (l % 16) 0) (leb l 16384) .0 k .1))
+        (opened-known s h r g (q ∙ ap opened.Sheet z), log-most l k)
     go (opened.Sheet x) false q k f = absurd (let z : _≡_ {A = ℕ} 0 1 = cc in omega arith)
     go (opened.Refused why) b q k f = absurd (let z : _≡_ {A = ℕ} 0 1 = cc in omega arith)
 

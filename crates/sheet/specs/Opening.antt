@@ -2,8 +2,9 @@
 use mathlib.Core.Path.{_≡_}
 use mathlib.Core.Bool.{Bool, _&&_, cond}
 use mathlib.Core.List.{List}
-use Prim.Native.Nat.{ℕ, _%_}
-use lib.Dec.{eqb, leb}
+use Prim.Native.Nat.{ℕ}
+use lib.Dec.{eqb}
+use Rattle.area.specs.Log.{logRight}
 use Rattle.tags.specs.declared.refusal.Refusal.{Refusal}
 use Rattle.tags.specs.declared.refusal.Refusal.the-variants.{BadSheet, BadNumber, BadLength}
 use Rattle.sheet.specs.Geometry.{heapLength, recordsLength}
@@ -36,10 +37,7 @@ abbrev pub byOpened {ℓ} : {A : Type ℓ} → Opened → (Sheet → A) → (Ref
 byOpened (opened.Sheet g) f shut = f g
 byOpened (opened.Refused why) f shut = shut why
 
--- A4, X3 (the log: a multiple of 16, at most 16,384), E3 (X3 tests the log where one is given)
-abbrev pub logRight : ℕ → Bool
-logRight l = eqb (l % 16) 0 && leb l 16384
-
+-- E3 (X3 tests the log where one is given)
 unfoldable pub openedWithLog : List ℕ → ℕ → ℕ → ℕ → Opened
 openedWithLog s h r l = byOpened (openedOf s h r) (λ g. cond (logRight l) (opened.Sheet g) (opened.Refused BadLength)) opened.Refused
 

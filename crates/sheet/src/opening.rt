@@ -5,6 +5,7 @@ ghost use Rattle.sheet.specs.Opening.{measured, numbered, openedOf, open
 use crate::fields;
 use crate::geometry::Sheet;
 use crate::limits;
+use area::log;
 use tags::refusal::Refusal;
 
 // An image that passed the tests 1 to 3, or why it did not.
@@ -61,13 +62,10 @@ pub fn open_with_log(sheet: &[u8], heap_len: usize, records_len: usize, log_len:
     match opened {
         Opened::Refused(why) => Opened::Refused(why),
         Opened::Sheet(g) => {
-            if log_len % 16 != 0 {
-                return Opened::Refused(Refusal::BadLength);
+            if log::is_log(log_len) {
+                return Opened::Sheet(g);
             }
-            if 16384 < log_len {
-                return Opened::Refused(Refusal::BadLength);
-            }
-            Opened::Sheet(g)
+            Opened::Refused(Refusal::BadLength)
         }
     }
 }

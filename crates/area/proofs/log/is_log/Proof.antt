@@ -1,0 +1,11 @@
+-- The rows are tested and then the length. Assumes nothing.
+use borrow.Author.Tests.{eq-eqb, ne-eqb}
+use borrow.Author.Needs.{needs}
+use Rattle.area.specs.Log.{logRight}
+use Rattle.area.proofs.log.is_log.Statement.{statement}
+use Rattle.area.proofs.log.is_log.Tie as tie
+
+pub is-log-spec : {M : Type 1} → statement M
+unfolding logRight
+is-log-spec =
+    tie.close (tie.spec (λ c. rw (ne-eqb _ _ (c .if1 .taken))) (λ c. rw (eq-eqb _ _ (c .if1 .left))))

@@ -1,0 +1,41 @@
+// The format of the log: rows of four words, the record's address at 0, the uptime at 4, the thread at 8 and the kind at 12. No rule
+// reads the last two.
+ghost use mathlib.Core.Path.{_≡_};
+ghost use Prim.Native.Nat.{_+_, _*_, _≤_};
+ghost use lib.ListN.{length};
+ghost use Rattle.area.specs.Log.{rowSize, logRight, rowRecord, rowUptime};
+use words::word;
+
+pub const ROW: usize = 16;
+
+const MOST: usize = 16384;
+
+const RECORD: usize = 0;
+
+const UPTIME: usize = 4;
+
+// Whether a log can have so many bytes.
+pub fn is_log(len: usize) -> bool
+    ensures { λ r. ⌜ r ≡ logRight len ⌝ }
+{
+    if len % ROW != 0 {
+        return false;
+    }
+    len <= MOST
+}
+
+// The address of the record that row k names.
+pub fn record(log: &[u8], k: usize) -> u32
+    requires { ⌜ k * rowSize + rowSize ≤ length (now log) ⌝ }
+    ensures { λ r. ⌜ r ≡ rowRecord (now (log .entry)) k ⌝ }
+{
+    word::read_u32(log, k * ROW + RECORD)
+}
+
+// The uptime of row k.
+pub fn uptime(log: &[u8], k: usize) -> u32
+    requires { ⌜ k * rowSize + rowSize ≤ length (now log) ⌝ }
+    ensures { λ r. ⌜ r ≡ rowUptime (now (log .entry)) k ⌝ }
+{
+    word::read_u32(log, k * ROW + UPTIME)
+}
