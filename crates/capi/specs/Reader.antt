@@ -9,7 +9,7 @@ use Rattle.tags.specs.declared.refusal.Refusal.the-variants.{ShortOutput}
 use Rattle.sheet.specs.Opening.{lengthsOf}
 use Rattle.sheet.specs.declared.opening.Lengths.{Lengths}
 use Rattle.sheet.specs.declared.opening.Lengths.the-variants as lengths
-use Rattle.image.specs.Numbers.{Numbered, numbering}
+use Rattle.survey.specs.Numbers.{Numbered, numbering}
 use Rattle.capi.specs.Answer.{answerWord}
 use Rattle.tags.specs.Filling.{Filling, filling, unfilled, ifRoom}
 

@@ -7,9 +7,10 @@ ghost use Rattle.holding.specs.Free.{freeOf};
 ghost use Rattle.holding.specs.Store.{storeOf};
 ghost use Rattle.sheet.specs.Fields.{sheetOf};
 ghost use Rattle.holding.specs.Show.{shownOf, StartsAt};
-ghost use Rattle.capi.specs.Answer.{grantOf, answerWord, showWord};
+ghost use Rattle.capi.specs.Answer.{grantOf, stampOf, answerWord, showWord};
 use crate::answer;
 use allocation::allocate;
+use area::record::Stamp;
 use chunks::chunk::Grant;
 use holding::free;
 use holding::show;
@@ -66,10 +67,11 @@ pub extern "C" fn cg_allocate(
     thread: u32,
 ) -> u64
     ensures { λ r. ⌜ result r (after sheet heap records)
-        ≡ answered answerWord (allocateOf (before sheet heap records) (grantOf whole size) uptime thread) ⌝ }
+        ≡ answered answerWord (allocateOf (before sheet heap records) (grantOf whole size) (stampOf uptime thread)) ⌝ }
 {
     let asked = grant(whole, size);
-    answer::word(allocate::allocate(sheet, heap, records, asked, uptime, thread))
+    let granted = Stamp { uptime, thread };
+    answer::word(allocate::allocate(sheet, heap, records, asked, granted))
 }
 
 // Frees the buffer at an address.
@@ -86,10 +88,11 @@ pub extern "C" fn cg_free(
 ) -> u64
     ensures { λ r. ⌜ result r (after sheet heap records)
         ≡ answered answerWord
-        (freeOf (before sheet heap records) address (grantOf whole size) uptime thread) ⌝ }
+        (freeOf (before sheet heap records) address (grantOf whole size) (stampOf uptime thread)) ⌝ }
 {
     let given = grant(whole, size);
-    answer::word(free::free(sheet, heap, records, address, given, uptime, thread))
+    let freed = Stamp { uptime, thread };
+    answer::word(free::free(sheet, heap, records, address, given, freed))
 }
 
 // Stores bytes at an offset in the buffer at an address.
@@ -113,7 +116,7 @@ pub extern "C" fn cg_store(
 #[no_mangle]
 pub extern "C" fn cg_show(sheet: &[u8], heap: &[u8], records: &[u8], address: u32) -> u64
     ensures answer { λ r. ⌜ r ≡ showWord (shownOf (before sheet heap records) address) ⌝ }
-    ensures starts { λ _. ⌜ StartsAt (sheetOf (now (sheet .entry)) .heap) address
+    ensures starts { λ _. ⌜ StartsAt (sheetOf (now (sheet .entry)) .«heap_base») address
         (shownOf (before sheet heap records) address) ⌝ }
 {
     let c = show::find_client(sheet, heap, records, address);

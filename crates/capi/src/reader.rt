@@ -3,8 +3,8 @@ ghost use mathlib.Core.Path.{_≡_};
 ghost use lib.ListN.{length};
 ghost use Rattle.tags.specs.Filling.{filling, told};
 ghost use Rattle.sheet.specs.Areas.{before};
-ghost use Rattle.image.specs.Inspect.{tabulateOf};
-ghost use Rattle.image.specs.Numbers.{numbering, surveyNumbersOf};
+ghost use Rattle.survey.specs.Table.{tabulateOf};
+ghost use Rattle.survey.specs.Numbers.{numbering, surveyNumbersOf};
 ghost use Rattle.transactions.specs.Latest.{latestOf};
 ghost use Rattle.report.specs.Answer.{reportOf};
 ghost use Rattle.capi.specs.Answer.{answerWord, latestWord};
@@ -12,9 +12,9 @@ ghost use Rattle.capi.specs.Reader.{areaLengthsOf, surveyWord};
 use crate::answer::accepted;
 use crate::answer::refused;
 use crate::answer::word;
-use image::inspect;
-use image::numbers;
 use report::answer;
+use survey::numbers;
+use survey::table;
 use sheet::opening;
 use sheet::opening::Lengths;
 use tags::refusal::Refusal;
@@ -47,7 +47,7 @@ pub extern "C" fn cg_inspect(sheet: &[u8], heap: &[u8], records: &[u8], rows: &m
     ensures { λ r. ⌜ filling r (now (rows .exit))
         ≡ told answerWord (tabulateOf (before sheet heap records) (now (rows .entry))) ⌝ }
 {
-    word(inspect::tabulate(sheet, heap, records, rows))
+    word(table::tabulate(sheet, heap, records, rows))
 }
 
 // Fills the same numbers of an image with a log, and three of the chain: records met, ending, the record that it came back to.

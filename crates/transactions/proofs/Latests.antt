@@ -6,22 +6,23 @@ use native.Mathlib.Omega.{arith}
 use lib.Dec.{eqb, ltb}
 use lib.ListN.{length}
 use Rattle.words.proofs.Tests.{by-test}
-use Rattle.area.specs.Record.{recordSize, recordWord, stampHighAt, stampLowAt}
+use Rattle.area.specs.Record.{recordSize, stampHigh, stampLow}
+use Rattle.area.specs.Log.{rowSize, logMost}
 use Rattle.area.specs.declared.place.Place.{Place}
 use Rattle.area.specs.declared.place.Place.the-variants as place
 use Rattle.tags.specs.declared.refusal.Refusal.the-variants.{Damage}
 use Rattle.tags.specs.declared.verdict.Verdict.the-variants.{NotOneRecord}
-use Rattle.sheet.specs.Areas.{Areas}
-use Rattle.sheet.specs.Geometry.{bufferAddress, recordAddress}
-use Rattle.sheet.specs.Opening.{Open, openedWithLog}
+use Rattle.sheet.specs.Areas.{Areas, openingWithLog}
+use Rattle.sheet.specs.Geometry.{recordAddress}
+use Rattle.sheet.specs.Opening.{Open}
 use Rattle.sheet.specs.declared.geometry.Sheet.{Sheet}
 use Rattle.sheet.proofs.Opens.{logged-known, by-opened}
 use Rattle.sheet.proofs.Sheets.{record-inside}
-use Rattle.verdicts.specs.Pairing.{ownOf, byOwn}
+use Rattle.verdicts.specs.Pairing.{ownIn, byOwn}
 use Rattle.verdicts.specs.declared.pairing.Own.{Own}
 use Rattle.verdicts.specs.declared.pairing.Own.the-variants.{One, NotOne}
 use Rattle.verdicts.proofs.Pairs.{own-below}
-use Rattle.transactions.specs.Latest.{rowSize, latestRow, firstBest, rowOrRecord, ownedLatest, indexedLatest, latestOf}
+use Rattle.transactions.specs.Latest.{latestRow, firstBest, rowOrRecord, ownedLatest, indexedLatest, latestOf}
 use Rattle.transactions.specs.declared.latest.Transaction.{Transaction}
 use Rattle.transactions.specs.declared.latest.Transaction.the-variants.{Row, Record, Refused}
 use Rattle.transactions.proofs.Transactions.{row-below}
@@ -35,13 +36,13 @@ LatestIf r l (Refused why) = Unit {0}
 -- what the rows leave of record j
 abbrev chosen : Sheet → List ℕ → List ℕ → ℕ → ℕ → Place
 chosen g records log time j =
-    latestRow log (recordAddress g j) time (firstBest (recordWord records j stampLowAt) time) (length log / rowSize) .row
+    latestRow log (recordAddress g j) time (firstBest (stampLow records j) time) (length log / rowSize) .row
 
-owned-if : (g : Sheet) (h : ℕ) (records log : List ℕ) (time j : ℕ) → Open h (length records) g → length log ≤ 16384 → j < g .count
+owned-if : (g : Sheet) (h : ℕ) (records log : List ℕ) (time j : ℕ) → Open h (length records) g → length log ≤ logMost → j < g .count
     → LatestIf (length records) (length log) (ownedLatest g records log time j)
 unfolding ownedLatest
 owned-if g h records log time j o few below =
-    by-test P (eqb (recordWord records j stampHighAt) 0) (λ t. go (chosen g records log time j) refl) (λ t. tt)
+    by-test P (eqb (stampHigh records j) 0) (λ t. go (chosen g records log time j) refl) (λ t. tt)
   where
     P : Transaction → Type 0
     P = LatestIf (length records) (length log)
@@ -53,19 +54,19 @@ owned-if g h records log time j o few below =
 latest-if : (a : Areas) (log : List ℕ) (index time : ℕ) → LatestIf (length (a .records)) (length log) (latestOf a log index time)
 unfolding latestOf indexedLatest
 latest-if a log index time =
-    by-opened P (openedWithLog (a .sheet) (length (a .heap)) (length (a .records)) (length log))
+    by-opened P (openingWithLog a (length log))
     (λ g e.
     let o = logged-known (a .sheet) (length (a .heap)) (length (a .records)) (length log) g e in
     by-test P (ltb index (g .count))
-    (λ t. go g (o .0 .opens) (o .1) (ownOf (a .records) (g .count) (bufferAddress g index)) refl)
+    (λ t. go g (o .0 .opens) (o .1) (ownIn g (a .records) index) refl)
     (λ t. tt))
     (λ why. tt)
   where
     P : Transaction → Type 0
     P = LatestIf (length (a .records)) (length log)
 
-    go : (g : Sheet) → Open (length (a .heap)) (length (a .records)) g → length log ≤ 16384
-        → (w : Own) → ownOf (a .records) (g .count) (bufferAddress g index) ≡ w
+    go : (g : Sheet) → Open (length (a .heap)) (length (a .records)) g → length log ≤ logMost
+        → (w : Own) → ownIn g (a .records) index ≡ w
         → P (byOwn w (ownedLatest g (a .records) log time) (Refused (Damage NotOneRecord)))
     go g o few (One j) e = owned-if g (length (a .heap)) (a .records) log time j o few (own-below _ _ _ _ e)
     go g o few NotOne e = tt

@@ -6,14 +6,14 @@ use Prim.Native.Nat.{ℕ, zero, suc, _+_, _*_, _/_, _≤_, _<_}
 use denote.Ref.{RefT}
 use lib.Dec.{eqb, leb, ltb}
 use lib.ListN.{length}
-use Rattle.words.specs.Word.{part, numberAt}
+use Rattle.words.specs.Word.{part}
 use Rattle.words.specs.Age.{ageOf}
 use Rattle.tags.specs.declared.verdict.Verdict.the-variants.{NotOneRecord}
-use Rattle.area.specs.Record.{recordSize, recordWord, stampHighAt, stampLowAt}
-use Rattle.sheet.specs.Opening.{openedWithLog, byOpened}
-use Rattle.verdicts.specs.Pairing.{ownOf, byOwn}
-use Rattle.sheet.specs.Areas.{Areas, PartAt}
-use Rattle.sheet.specs.Geometry.{bufferAddress, recordAddress}
+use Rattle.area.specs.Record.{recordSize, stampHigh, stampLow}
+use Rattle.area.specs.Log.{rowSize, rowRecord, rowUptime}
+use Rattle.verdicts.specs.Pairing.{ownIn, byOwn}
+use Rattle.sheet.specs.Areas.{Areas, PartAt, openingWithLog, byImage}
+use Rattle.sheet.specs.Geometry.{recordAddress}
 use Rattle.sheet.specs.declared.geometry.Sheet.{Sheet}
 use Rattle.area.specs.declared.place.Place.{Place}
 use Rattle.area.specs.declared.place.Place.the-variants as place
@@ -22,17 +22,13 @@ use Rattle.transactions.specs.declared.latest.Best.{Best}
 use Rattle.transactions.specs.declared.latest.Transaction.{Transaction}
 use Rattle.transactions.specs.declared.latest.Transaction.the-variants.{Row, Record, Refused}
 
--- A4, A5 (a row of the log)
-abbrev pub rowSize : ℕ
-rowSize = 16
-
 -- A5, L1 (the row names the record): row k of the log, the record at the address a
 abbrev pub rowNames : List ℕ → ℕ → ℕ → Bool
-rowNames log a k = eqb (numberAt 4 log (k * rowSize)) a
+rowNames log a k = eqb (rowRecord log k) a
 
 -- L2 (the age of row k)
 abbrev pub rowAge : List ℕ → ℕ → ℕ → ℕ
-rowAge log time k = ageOf 32 time (numberAt 4 log (k * rowSize + 4))
+rowAge log time k = ageOf 32 time (rowUptime log k)
 
 -- L3 (of equal ages, the later row): row k takes the place of what was latest before it if it names the record and is not older
 unfoldable pub considered : List ℕ → ℕ → ℕ → ℕ → Best → Best
@@ -56,19 +52,19 @@ rowOrRecord place.Nowhere j = Record j
 -- X12 (the high half of the stamp is not 0), for the buffer whose own record is j
 unfoldable pub ownedLatest : Sheet → List ℕ → List ℕ → ℕ → ℕ → Transaction
 ownedLatest g records log time j =
-    cond (eqb (recordWord records j stampHighAt) 0)
-    (rowOrRecord (latestRow log (recordAddress g j) time (firstBest (recordWord records j stampLowAt) time) (length log / rowSize) .row) j)
+    cond (eqb (stampHigh records j) 0)
+    (rowOrRecord (latestRow log (recordAddress g j) time (firstBest (stampLow records j) time) (length log / rowSize) .row) j)
     (Refused WideStamp)
 
 -- X4 (index not below n), E7 (X7 with 20)
 unfoldable pub indexedLatest : Sheet → List ℕ → List ℕ → ℕ → ℕ → Transaction
 indexedLatest g records log index time =
-    cond (ltb index (g .count)) (byOwn (ownOf records (g .count) (bufferAddress g index)) (ownedLatest g records log time) (Refused (Damage NotOneRecord))) (Refused NoSuchBuffer)
+    cond (ltb index (g .count)) (byOwn (ownIn g records index) (ownedLatest g records log time) (Refused (Damage NotOneRecord))) (Refused NoSuchBuffer)
 
 -- E7 (the order of latest), after E3
 unfoldable pub latestOf : Areas → List ℕ → ℕ → ℕ → Transaction
 latestOf a log index time =
-    byOpened (openedWithLog (a .sheet) (length (a .heap)) (length (a .records)) (length log)) (λ g. indexedLatest g (a .records) log index time) Refused
+    byImage (openingWithLog a (length log)) a (λ m. indexedLatest (m .sheet) (m .records) log index time) Refused
 
 -- L4 (the part handed back), E1 (of a refusal, none)
 abbrev pub latestPart : List ℕ → List ℕ → Transaction → List ℕ

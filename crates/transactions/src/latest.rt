@@ -3,13 +3,15 @@
 ghost use mathlib.Core.Path.{_≡_};
 ghost use Prim.Native.Nat.{_+_, _*_, _≤_, _<_};
 ghost use lib.ListN.{length};
-ghost use Rattle.sheet.specs.Opening.{Open};
-ghost use Rattle.verdicts.specs.Pairing.{ownOf};
+ghost use Rattle.area.specs.Log.{rowSize, logMost};
+ghost use Rattle.sheet.specs.Geometry.{recordsLength};
+ghost use Rattle.sheet.specs.Limits.{Lawful};
 ghost use Rattle.sheet.specs.Areas.{before};
-ghost use Rattle.sheet.specs.Geometry.{bufferAddress};
-ghost use Rattle.transactions.specs.Latest.{rowSize, considered, latestRow, firstBest, ownedLatest, indexedLatest, latestOf, latestPart, LatestPlace};
+ghost use Rattle.transactions.specs.Latest.{considered, latestRow, firstBest, ownedLatest, indexedLatest, latestOf, latestPart, LatestPlace};
+use area::log;
 use area::place::Place;
 use area::record;
+use places::records;
 use sheet::geometry::Sheet;
 use sheet::opening;
 use sheet::opening::Opened;
@@ -18,9 +20,6 @@ use tags::verdict::Verdict;
 use verdicts::pairing;
 use verdicts::pairing::Own;
 use words::age;
-use words::word;
-
-const ROW: usize = 16;
 
 // What is latest so far: a row, or no row and so the record; and its age.
 pub struct Best {
@@ -40,11 +39,10 @@ fn consider(log: &[u8], k: usize, record_at: u32, time: u32, best: Best) -> Best
     requires { ⌜ k * rowSize + rowSize ≤ length (now log) ⌝ }
     ensures { λ r. ⌜ r ≡ considered (now (log .entry)) «record_at» time k best ⌝ }
 {
-    let at = k * ROW;
-    if word::read_u32(log, at) != record_at {
+    if log::record(log, k) != record_at {
         return best;
     }
-    let a = age::age(time, word::read_u32(log, at + 4));
+    let a = age::age(time, log::uptime(log, k));
     if best.age < a {
         return best;
     }
@@ -73,17 +71,17 @@ fn latest_row(log: &[u8], n: usize, record_at: u32, stamp: u32, time: u32) -> Be
 
 // The latest transaction of the buffer whose own record is j.
 fn latest_owned(records: &[u8], log: &[u8], g: Sheet, j: usize, time: u32) -> Transaction
-    requires { ⌜ Open (g .count * g .chunk) (length (now records)) g ⌝ }
+    requires { ⌜ Lawful g ⌝ }
+    requires { ⌜ length (now records) ≡ recordsLength g ⌝ }
     requires { ⌜ j < g .count ⌝ }
-    requires { ⌜ length (now log) ≤ 16384 ⌝ }
+    requires { ⌜ length (now log) ≤ logMost ⌝ }
     ensures { λ r. ⌜ r ≡ ownedLatest g (now (records .entry)) (now (log .entry)) time j ⌝ }
 {
-    if record::read(records, g.record_base, j, record::STAMP_HIGH) != 0 {
+    if records::stamp_high(records, g, j) != 0 {
         return Transaction::Refused(Refusal::WideStamp);
     }
-    let record_at = g.record_base + (j * record::SIZE) as u32;
-    let stamp = record::read(records, g.record_base, j, record::STAMP_LOW);
-    let best = latest_row(log, log.len() / ROW, record_at, stamp, time);
+    let stamp = records::stamp_low(records, g, j);
+    let best = latest_row(log, log.len() / log::ROW, g.record_address(j), stamp, time);
     let row = best.row;
     match row {
         Place::At(k) => Transaction::Row(k),
@@ -91,33 +89,16 @@ fn latest_owned(records: &[u8], log: &[u8], g: Sheet, j: usize, time: u32) -> Tr
     }
 }
 
-// Buffer i's own record.
-fn own_of(records: &[u8], g: Sheet, i: usize) -> Own
-    requires { ⌜ Open (g .count * g .chunk) (length (now records)) g ⌝ }
-    requires { ⌜ i < g .count ⌝ }
-    ensures { λ r. ⌜ r ≡ ownOf (now (records .entry)) (g .count) (bufferAddress g i) ⌝ }
-{
-    let mut pairs = [0u16; 512];
-    pairing::pair(
-        records,
-        g.record_base,
-        g.heap_base,
-        g.chunk,
-        g.count,
-        &mut pairs,
-    );
-    pairing::own_record(&pairs, i)
-}
-
 // The latest transaction of the buffer with an index, of an open image.
 fn latest_of(records: &[u8], log: &[u8], g: Sheet, index: u32, time: u32) -> Transaction
-    requires { ⌜ Open (g .count * g .chunk) (length (now records)) g ⌝ }
-    requires { ⌜ length (now log) ≤ 16384 ⌝ }
+    requires { ⌜ Lawful g ⌝ }
+    requires { ⌜ length (now records) ≡ recordsLength g ⌝ }
+    requires { ⌜ length (now log) ≤ logMost ⌝ }
     ensures { λ r. ⌜ r ≡ indexedLatest g (now (records .entry)) (now (log .entry)) index time ⌝ }
 {
     let i = index as usize;
     if i < g.count {
-        let own = own_of(records, g, i);
+        let own = pairing::own_record(records, g, i);
         match own {
             Own::NotOne => Transaction::Refused(Refusal::Damage(Verdict::NotOneRecord)),
             Own::One(j) => latest_owned(records, log, g, j, time),
@@ -164,8 +145,8 @@ pub fn latest<'a>(
     match found {
         Transaction::Refused(_) => &log[0..0],
         Transaction::Row(k) => {
-            let at = k * ROW;
-            let end = at + ROW;
+            let at = k * log::ROW;
+            let end = at + log::ROW;
             &log[at..end]
         }
         Transaction::Record(j) => {

@@ -5,25 +5,19 @@ use Rattle.transactions.specs.Latest.{considered}
 use Rattle.transactions.proofs.latest.consider.Statement.{statement}
 use Rattle.transactions.proofs.latest.consider.Tie as tie
 
-returns-2 : tie.Need-returns-2
-unfolding considered
-returns-2 c =
-    let g = c .before .before in
-    let i = g .before .before in
-    rw (← i .before .read-u32 .ensures, eq-eqb _ _ (i .if1 .left), ← g .before .read-u322 .ensures, ← g .age .ensures, lt-leb _ _ (c .if2 .taken))
-
-returns-3 : tie.Need-returns-3
-unfolding considered
-returns-3 c =
-    let g = c .before .before in
-    let i = g .before .before in
-    rw (← i .before .read-u32 .ensures, eq-eqb _ _ (i .if1 .left), ← g .before .read-u322 .ensures, ← g .age .ensures, le-leb _ _ (c .if2 .left))
-
 pub consider-spec : {M : Type 1} → statement M
 unfolding considered
 consider-spec =
     tie.close
     (tie.spec
-    (λ c. search needs) (λ c κs. search needs)
-    (λ c. rw (← c .before .read-u32 .ensures, ne-eqb _ _ (c .if1 .taken)))
-    (λ c. search needs) (λ c κs. search needs) (λ c κs. search needs) returns-2 returns-3)
+    (λ c κs. search needs)
+    (λ c. rw (← c .before .record .ensures, ne-eqb _ _ (c .if1 .taken)))
+    (λ c κs. search needs) (λ c κs. search needs)
+    (λ c.
+    let g = c .before in
+    let i = g .before .before in
+    rw (← i .before .record .ensures, eq-eqb _ _ (i .if1 .left), ← g .before .uptime .ensures, ← g .age .ensures, lt-leb _ _ (c .if2 .taken)))
+    (λ c.
+    let g = c .before in
+    let i = g .before .before in
+    rw (← i .before .record .ensures, eq-eqb _ _ (i .if1 .left), ← g .before .uptime .ensures, ← g .age .ensures, le-leb _ _ (c .if2 .left))))

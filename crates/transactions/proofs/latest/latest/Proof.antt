@@ -5,28 +5,30 @@ use native.Mathlib.Omega.{arith}
 use borrow.Author.Needs.{needs}
 use lib.ListN.{length}
 use Rattle.transactions.proofs.Latests.{row-known, record-known}
+use Rattle.area.specs.Record.{recordSize}
+use Rattle.area.specs.Log.{rowSize}
 use Rattle.words.proofs.Parts.{part-lent}
 use Rattle.transactions.proofs.latest.latest.Statement.{statement}
 use Rattle.transactions.proofs.latest.latest.Tie as tie
 
 -- the part lies in its area
 row-inside : (c : tie.After-found) → let s = c .before .before .before .before .before .before .before in
-    c .found .given .0 .0 * 16 + 16 ≤ length (s .args .log .now)
+    c .found .given .0 .0 * rowSize + rowSize ≤ length (s .args .log .now)
 row-inside c = row-known _ _ _ _ _ (sym (c .before .before .find-latest .ensures) ∙ c .found .given .1) .0
 
 record-inside : (c : tie.After-found2) → let s = c .before .before .before .before .before .before .before in
-    c .found2 .given .0 .0 * 96 + 96 ≤ length (s .args .records .now)
+    c .found2 .given .0 .0 * recordSize + recordSize ≤ length (s .args .records .now)
 record-inside c = record-known _ _ _ _ _ (sym (c .before .before .find-latest .ensures) ∙ c .found2 .given .1) .0
 
 returns-2 : tie.Need-returns-2
 returns-2 c =
     let f = c .before .before in
-    rw (← f .before .before .find-latest .ensures, f .found .given .1) (part-lent _ (f .found .given .0 .0 * 16) 16, (refl, omega arith))
+    rw (← f .before .before .find-latest .ensures, f .found .given .1) (part-lent _ (f .found .given .0 .0 * rowSize) rowSize, (refl, omega arith))
 
 returns-3 : tie.Need-returns-3
 returns-3 c =
     let f = c .before .before in
-    rw (← f .before .before .find-latest .ensures, f .found2 .given .1) (part-lent _ (f .found2 .given .0 .0 * 96) 96, (refl, omega arith))
+    rw (← f .before .before .find-latest .ensures, f .found2 .given .1) (part-lent _ (f .found2 .given .0 .0 * recordSize) recordSize, (refl, omega arith))
 
 pub latest-spec : {M : Type 1} → statement M
 latest-spec =

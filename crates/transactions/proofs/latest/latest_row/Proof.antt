@@ -5,6 +5,7 @@ use native.Mathlib.Omega.{arith}
 use borrow.Author.Needs.{needs}
 use Rattle.transactions.proofs.Transactions.{latest-none, latest-more}
 use Rattle.transactions.specs.Latest.{latestRow, firstBest}
+use Rattle.area.specs.Log.{rowSize}
 use Rattle.words.proofs.Parts.{below}
 use Rattle.transactions.proofs.latest.latest_row.Statement.{statement}
 use Rattle.transactions.proofs.latest.latest_row.Tie as tie
@@ -16,7 +17,7 @@ abbrev μ-loop : tie.MeasureT-loop
 μ-loop log n record-at stamp time best₀ k₀ best k = n - k
 
 consider-requires : tie.Need-consider-requires Inv-loop μ-loop
-consider-requires c κs = let b = below 16 (c .loop-test .taken) in let p = c .before .before .before .before .pre in omega arith
+consider-requires c κs = let b = below rowSize (c .loop-test .taken) in let p = c .before .before .before .before .pre in omega arith
 
 returns : tie.Need-returns Inv-loop μ-loop
 returns c = let e : c .before .loop .k ≡ c .before .before .before .before .args .n = omega arith in rw e at (c .before .loop .inv .1)
