@@ -2,17 +2,30 @@
 use crate::findings;
 use crate::lines;
 use allocation::allocate;
+use area::log;
+use area::record;
+use area::record::Stamp;
 use chunks::chunk::Grant;
 use holding::free;
 use holding::show;
 use holding::show::Shown;
 use holding::store;
 use image::inspect::Finding;
+use sheet::fields;
 use tags::refusal::Answer;
 use tags::verdict;
 use transactions::latest;
 use transactions::latest::Transaction;
 use window::Word;
+
+// The areas of an image of three buffers of 24 bytes, and a log of three rows.
+pub(crate) type SheetArea = [u8; fields::LENGTH];
+
+pub(crate) type HeapArea = [u8; 3 * 40];
+
+pub(crate) type RecordArea = [u8; 3 * record::SIZE];
+
+pub(crate) type Log = [u8; 3 * log::ROW];
 
 // The line of a call that answers nothing but whether it was carried out.
 pub(crate) fn put_outcome(call: &[u8], answer: Answer) {
@@ -40,36 +53,38 @@ fn put_allocated(answer: Answer) {
 
 // Allocates.
 pub(crate) fn allocate(
-    sheet: &mut [u8; 48],
-    heap: &mut [u8; 120],
-    records: &mut [u8; 288],
+    sheet: &mut SheetArea,
+    heap: &mut HeapArea,
+    records: &mut RecordArea,
     grant: Grant,
     uptime: u32,
     thread: u32,
 ) {
-    let answer = allocate::allocate(sheet, heap, records, grant, uptime, thread);
+    let stamp = Stamp { uptime, thread };
+    let answer = allocate::allocate(sheet, heap, records, grant, stamp);
     put_allocated(answer);
 }
 
 // Frees.
 pub(crate) fn free(
-    sheet: &mut [u8; 48],
-    heap: &mut [u8; 120],
-    records: &mut [u8; 288],
+    sheet: &mut SheetArea,
+    heap: &mut HeapArea,
+    records: &mut RecordArea,
     address: u32,
     grant: Grant,
     uptime: u32,
     thread: u32,
 ) {
-    let answer = free::free(sheet, heap, records, address, grant, uptime, thread);
+    let stamp = Stamp { uptime, thread };
+    let answer = free::free(sheet, heap, records, address, grant, stamp);
     put_outcome(b"free", answer);
 }
 
 // Stores.
 pub(crate) fn store(
-    sheet: &[u8; 48],
-    heap: &mut [u8; 120],
-    records: &[u8; 288],
+    sheet: &SheetArea,
+    heap: &mut HeapArea,
+    records: &RecordArea,
     address: u32,
     offset: u32,
     bytes: &[u8],
@@ -92,7 +107,7 @@ fn put_shown(answer: Shown) {
 }
 
 // Shows: where the client's bytes are, and the bytes.
-pub(crate) fn show(sheet: &[u8; 48], heap: &[u8; 120], records: &[u8; 288], address: u32) {
+pub(crate) fn show(sheet: &SheetArea, heap: &HeapArea, records: &RecordArea, address: u32) {
     put_shown(show::find_client(sheet, heap, records, address));
     lines::put_word(b"show");
     let part = show::show(sheet, heap, records, address);
@@ -119,10 +134,10 @@ fn put_transaction(answer: Transaction) {
 
 // Where the latest transaction of a buffer stands, and its bytes.
 pub(crate) fn latest<'a>(
-    sheet: &[u8; 48],
-    heap: &[u8; 120],
-    records: &'a [u8; 288],
-    log: &'a [u8; 48],
+    sheet: &SheetArea,
+    heap: &HeapArea,
+    records: &'a RecordArea,
+    log: &'a Log,
     index: u32,
     time: u32,
 ) {
@@ -155,7 +170,7 @@ fn put_finding(f: Finding) {
 }
 
 // Inspects, and tells what the call answered and each row of its findings.
-pub(crate) fn inspect(sheet: &[u8; 48], heap: &[u8; 120], records: &[u8; 288]) {
+pub(crate) fn inspect(sheet: &SheetArea, heap: &HeapArea, records: &RecordArea) {
     let first = findings::look(sheet, heap, records, 0);
     let answer = first.answer;
     put_inspected(answer);

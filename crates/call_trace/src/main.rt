@@ -14,7 +14,13 @@
 //     byte, word              the number at an address, or none
 //
 // A call that is refused answers `refused N D`, with the refusal's number and its detail.
+use crate::calls::HeapArea;
+use crate::calls::Log;
+use crate::calls::RecordArea;
+use crate::calls::SheetArea;
+use area::record;
 use chunks::chunk::Grant;
+use sheet::fields;
 
 // The calls, each with its line.
 mod calls;
@@ -42,7 +48,7 @@ const THIRD: u32 = HEAP + 80;
 const GUARD: usize = 20;
 
 // An image that is none yet, and the image that is laid out.
-fn begin(sheet: &mut [u8; 48], heap: &mut [u8; 120], records: &mut [u8; 288]) {
+fn begin(sheet: &mut SheetArea, heap: &mut HeapArea, records: &mut RecordArea) {
     calls::inspect(sheet, heap, records);
     let answer = layout::lay_out(CACHE, HEAP, RECORDS, 24, 3, sheet, heap, records);
     calls::put_outcome(b"lay_out", answer);
@@ -50,7 +56,7 @@ fn begin(sheet: &mut [u8; 48], heap: &mut [u8; 120], records: &mut [u8; 288]) {
 }
 
 // A grant of 20 bytes, a whole one, and two of sizes that no buffer has.
-fn grant(sheet: &mut [u8; 48], heap: &mut [u8; 120], records: &mut [u8; 288]) {
+fn grant(sheet: &mut SheetArea, heap: &mut HeapArea, records: &mut RecordArea) {
     calls::allocate(sheet, heap, records, Grant::Sized(20), 100, 7);
     calls::allocate(sheet, heap, records, Grant::Whole, 200, 8);
     calls::allocate(sheet, heap, records, Grant::Sized(25), 250, 9);
@@ -58,7 +64,7 @@ fn grant(sheet: &mut [u8; 48], heap: &mut [u8; 120], records: &mut [u8; 288]) {
 }
 
 // Stores up to a client's last byte and past it, and what the clients have then.
-fn store(sheet: &[u8; 48], heap: &mut [u8; 120], records: &[u8; 288]) {
+fn store(sheet: &SheetArea, heap: &mut HeapArea, records: &RecordArea) {
     calls::store(sheet, heap, records, FIRST, 0, b"relay");
     calls::store(sheet, heap, records, FIRST, 18, b"end");
     calls::store(sheet, heap, records, SECOND, 20, b"tail");
@@ -68,28 +74,28 @@ fn store(sheet: &[u8; 48], heap: &mut [u8; 120], records: &[u8; 288]) {
 }
 
 // The last buffer is granted in its full size, and there is no room for one more.
-fn fill(sheet: &mut [u8; 48], heap: &mut [u8; 120], records: &mut [u8; 288]) {
+fn fill(sheet: &mut SheetArea, heap: &mut HeapArea, records: &mut RecordArea) {
     calls::allocate(sheet, heap, records, Grant::Sized(24), 300, 7);
     calls::allocate(sheet, heap, records, Grant::Whole, 400, 9);
     calls::inspect(sheet, heap, records);
 }
 
 // Frees with another grant and with the right one, and once more.
-fn free(sheet: &mut [u8; 48], heap: &mut [u8; 120], records: &mut [u8; 288]) {
+fn free(sheet: &mut SheetArea, heap: &mut HeapArea, records: &mut RecordArea) {
     calls::free(sheet, heap, records, FIRST, Grant::Whole, 500, 7);
     calls::free(sheet, heap, records, SECOND, Grant::Whole, 500, 8);
     calls::free(sheet, heap, records, SECOND, Grant::Whole, 600, 8);
 }
 
 // What a freed buffer and an address between buffers show.
-fn show_freed(sheet: &[u8; 48], heap: &[u8; 120], records: &[u8; 288]) {
+fn show_freed(sheet: &SheetArea, heap: &HeapArea, records: &RecordArea) {
     calls::show(sheet, heap, records, SECOND);
     calls::show(sheet, heap, records, THIRD + 4);
     calls::inspect(sheet, heap, records);
 }
 
 // Three rows of the log: record 0 at 150, record 1 at 450, and record 0 at 110.
-fn log() -> [u8; 48] {
+fn log() -> Log {
     *b"\x70\xae\x31\xa0\0\0\0\x96\0\0\0\x07\0\0\0\x01\
       \x70\xae\x32\0\0\0\x01\xc2\0\0\0\x08\0\0\0\x02\
       \x70\xae\x31\xa0\0\0\0\x6e\0\0\0\x09\0\0\0\x01"
@@ -97,7 +103,7 @@ fn log() -> [u8; 48] {
 
 // The latest transactions: at time 600 a row of buffer 0 and the record of buffer 1; at time 120 the other row, since the uptime
 // 150 is then nearly 2^32 old.
-fn ask<'a>(sheet: &[u8; 48], heap: &[u8; 120], records: &'a [u8; 288], log: &'a [u8; 48]) {
+fn ask<'a>(sheet: &SheetArea, heap: &HeapArea, records: &'a RecordArea, log: &'a Log) {
     calls::latest(sheet, heap, records, log, 0, 600);
     calls::latest(sheet, heap, records, log, 1, 600);
     calls::latest(sheet, heap, records, log, 0, 120);
@@ -105,7 +111,7 @@ fn ask<'a>(sheet: &[u8; 48], heap: &[u8; 120], records: &'a [u8; 288], log: &'a 
 }
 
 // Bytes and words inside the areas, at their ends, and past them.
-fn read(heap: &[u8; 120], records: &[u8; 288]) {
+fn read(heap: &HeapArea, records: &RecordArea) {
     calls::read_byte(heap, HEAP, FIRST + 20);
     calls::read_byte(heap, HEAP, HEAP + 119);
     calls::read_byte(heap, HEAP, HEAP + 120);
@@ -117,18 +123,18 @@ fn read(heap: &[u8; 120], records: &[u8; 288]) {
 }
 
 // Writes a zero over the guard byte of the first buffer.
-fn hurt(heap: &mut [u8; 120]) {
+fn hurt(heap: &mut HeapArea) {
     heap[GUARD] = 0;
 }
 
 // What is found and shown once the guard byte of the first buffer is gone.
-fn show_hurt(sheet: &[u8; 48], heap: &[u8; 120], records: &[u8; 288]) {
+fn show_hurt(sheet: &SheetArea, heap: &HeapArea, records: &RecordArea) {
     calls::inspect(sheet, heap, records);
     calls::show(sheet, heap, records, FIRST);
 }
 
 // What is refused then, and what is not.
-fn use_hurt(sheet: &mut [u8; 48], heap: &mut [u8; 120], records: &mut [u8; 288]) {
+fn use_hurt(sheet: &mut SheetArea, heap: &mut HeapArea, records: &mut RecordArea) {
     calls::store(sheet, heap, records, FIRST, 0, b"late");
     calls::free(sheet, heap, records, FIRST, Grant::Sized(20), 700, 7);
     calls::allocate(sheet, heap, records, Grant::Sized(1), 800, 7);
@@ -136,9 +142,9 @@ fn use_hurt(sheet: &mut [u8; 48], heap: &mut [u8; 120], records: &mut [u8; 288])
 }
 
 fn main() {
-    let mut sheet = [0u8; 48];
-    let mut heap = [0u8; 120];
-    let mut records = [0u8; 288];
+    let mut sheet = [0u8; fields::LENGTH];
+    let mut heap = [0u8; 3 * 40];
+    let mut records = [0u8; 3 * record::SIZE];
     let log = log();
     begin(&mut sheet, &mut heap, &mut records);
     grant(&mut sheet, &mut heap, &mut records);
