@@ -10,14 +10,14 @@ ghost use Rattle.allocation.specs.Allocate.{ifFree, takenChunk, takenHea
 use area::place;
 use area::place::Place;
 use area::record;
-use tags::refusal::Answer;
-use tags::refusal::Refusal;
 use chunks::chunk;
 use chunks::chunk::Grant;
 use chunks::judge;
+use sheet::geometry::Sheet;
 use sheet::opening;
 use sheet::opening::Opened;
-use sheet::geometry::Sheet;
+use tags::refusal::Answer;
+use tags::refusal::Refusal;
 use tags::tag::Pattern;
 use tags::verdict;
 use tags::verdict::Verdict;

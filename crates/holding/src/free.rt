@@ -7,11 +7,11 @@ use crate::holding;
 use crate::holding::Held;
 use crate::holding::Holding;
 use area::record;
-use tags::refusal::Answer;
-use tags::refusal::Refusal;
 use chunks::chunk;
 use chunks::chunk::Grant;
 use sheet::opening;
+use tags::refusal::Answer;
+use tags::refusal::Refusal;
 use words::word;
 
 // Whether two grants are the same size, or whole both.

@@ -10,13 +10,13 @@ ghost use Rattle.holding.specs.Holding.{heldAs, heldBy, heldChunk, heldA
 use area::place;
 use area::place::Place;
 use area::record;
-use tags::refusal::Refusal;
 use chunks::chunk;
 use chunks::chunk::Grant;
 use chunks::judge;
+use sheet::geometry::Sheet;
 use sheet::opening;
 use sheet::opening::Opened;
-use sheet::geometry::Sheet;
+use tags::refusal::Refusal;
 use tags::tag::Pattern;
 use tags::verdict;
 use tags::verdict::Verdict;

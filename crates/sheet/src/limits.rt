@@ -80,4 +80,3 @@ pub(crate) fn is_lawful(g: Sheet) -> bool
     }
     false
 }
-
