@@ -1,8 +1,7 @@
 -- What is known of the buffer that an allocation takes, by the equation of its plan alone. Assumes nothing.
 use mathlib.Core.Path.{_≡_, subst}
 use mathlib.Core.List.{List}
-use Prim.Native.Nat.{ℕ, _+_, _*_, _≤_, _<_}
-use native.Mathlib.Omega.{arith}
+use Prim.Native.Nat.{ℕ}
 use lib.Dec.{eqb}
 use lib.ListN.{length}
 use Rattle.words.proofs.Tests.{by-test}
@@ -13,26 +12,24 @@ use Rattle.tags.specs.declared.tag.Pattern.the-variants as pattern
 use Rattle.chunks.specs.Chunk.{tagAt, lawfulSize}
 use Rattle.chunks.specs.Judge.{freeVerdict}
 use Rattle.chunks.specs.declared.chunk.Grant.{Grant}
-use Rattle.area.specs.Place.{placeOf}
-use Rattle.area.specs.Record.{recordSize, addressWord}
+use Rattle.area.specs.Record.{addressWord}
+use Rattle.area.specs.declared.place.Place.the-variants.{At}
 use Rattle.area.proofs.Places.{place-found}
 use Rattle.area.proofs.Placed.{by-place}
-use Rattle.sheet.specs.Areas.{Areas, byLengths, chunkAt}
-use Rattle.sheet.specs.Opening.{Open, openedOf}
-use Rattle.sheet.specs.declared.geometry.Sheet.{Sheet}
+use Rattle.sheet.specs.Areas.{Areas, byLengths, Image, opening, chunkIn, chunkAt}
+use Rattle.sheet.specs.Geometry.{bufferOf, recordOf}
 use Rattle.sheet.proofs.Opens.{opened-known, by-opened}
-use Rattle.sheet.proofs.Sheets.{chunk-inside, chunk-small}
+use Rattle.places.specs.Spot.{spot}
+use Rattle.places.specs.declared.spot.Spot.{Spot}
 use Rattle.allocation.specs.Allocate.{takenBy, takenChunk, takenHead, takenOf, allocatePlan, Takes}
-use Rattle.allocation.specs.declared.allocate.Spot.{Spot}
 use Rattle.allocation.specs.declared.allocate.AllocatePlan.{AllocatePlan}
 use Rattle.allocation.specs.declared.allocate.AllocatePlan.the-variants.{Take, Refused}
 
--- chunk i lies in a heap of h bytes, and its end is a small number
-abbrev pub ChunkLies : ℕ → Sheet → ℕ → Type 0
-ChunkLies h g i = (i * g .chunk + g .chunk ≤ h) × (i * g .chunk + g .chunk ≤ 65536)
-
-pub chunk-lies : (h r : ℕ) (g : Sheet) → Open h r g → (i : ℕ) → i < g .count → ChunkLies h g i
-chunk-lies h r g o i b = let k = chunk-inside g (o .law) i b in (omega (arith, o .heapLong), chunk-small g (o .law) i b)
+-- the chunk of the buffer that the head record names decides
+pub head-taken : (m : Image) (i j : ℕ) → recordOf (m .sheet) (m .sheet .head) ≡ At j → bufferOf (m .sheet) (addressWord (m .records) j) ≡ At i
+    → takenHead m ≡ takenChunk (chunkAt m i) (spot (m .sheet) i j)
+unfolding takenHead
+head-taken m i j e f = rw (e, f)
 
 -- what is claimed of a plan: of a buffer that it takes, that it can be taken
 abbrev TakenIf : Areas → Grant → AllocatePlan → Type 0
@@ -47,19 +44,18 @@ taken-by a q pattern.Free c p k = by-test (TakenIf a q) (isFoundFree (verdictNum
 taken-if : (a : Areas) (q : Grant) → TakenIf a q (allocatePlan a q)
 unfolding allocatePlan takenOf takenHead takenChunk
 taken-if a q =
-    by-opened P (openedOf (a .sheet) (length (a .heap)) (length (a .records)))
+    by-opened P (opening a)
     (λ g e.
     let o = opened-known (a .sheet) (length (a .heap)) (length (a .records)) g e in
     by-test P (lawfulSize (g .size) q)
     (λ l. by-test P (eqb (g .head) 0) (λ t. tt)
-    (λ t. by-place P (placeOf (g .«record_base») recordSize (g .count) (g .head))
-    (λ j f. by-place P (placeOf (g .«heap_base») (g .chunk) (g .count) (addressWord (a .records) j))
+    (λ t. by-place P (recordOf g (g .head))
+    (λ j f. by-place P (bufferOf g (addressWord (a .records) j))
     (λ i h.
-    let p : Spot = record { sheet = g; buffer = i; own = j } in
-    let c = chunkAt g (a .heap) i in
+    let c = chunkIn g (a .heap) i in
     by-test P (eqb (tagAt c .t0) (g .head))
-    (λ t. taken-by a q (patternOf (tagAt c)) c p
-    (record { ready = record { long = o .long; opened = o .opens; buffer = place-found _ _ _ _ _ h .0; own = place-found _ _ _ _ _ f .0 }; granted = l }))
+    (λ t. taken-by a q (patternOf (tagAt c)) c (spot g i j)
+    (record { within = record { long = o .long; opened = o .opens; buffer = place-found _ _ _ _ _ h .0; own = place-found _ _ _ _ _ f .0 }; granted = l }))
     (λ t. tt))
     tt)
     tt))

@@ -1,18 +1,20 @@
 // Allocate: a plan that only reads, and a commit that cannot fail.
 ghost use mathlib.Core.Path.{_≡_};
-ghost use Prim.Native.Nat.{_*_, _<_};
 ghost use lib.ListN.{length};
 ghost use Rattle.chunks.specs.Chunk.{lawfulSize};
-ghost use Rattle.sheet.specs.Areas.{lent, before, after, byLengths, result};
+ghost use Rattle.sheet.specs.Areas.{lent, before, after, byLengths, result, imageIn};
 ghost use Rattle.sheet.specs.Limits.{Lawful};
 ghost use Rattle.sheet.specs.Opening.{Open};
 ghost use Rattle.allocation.specs.Allocate.{ifFree, takenChunk, takenHead, takenOf, allocatePlan, Takes, grantedAreas, allocateOf};
-use area::place;
 use area::place::Place;
-use area::record;
+use area::record::Stamp;
 use chunks::chunk;
 use chunks::chunk::Grant;
 use chunks::judge;
+use places::heap;
+use places::records;
+use places::spot::Spot;
+use sheet::fields;
 use sheet::geometry::Sheet;
 use sheet::opening;
 use sheet::opening::Opened;
@@ -21,14 +23,6 @@ use tags::refusal::Refusal;
 use tags::tag::Pattern;
 use tags::verdict;
 use tags::verdict::Verdict;
-use words::word;
-
-// The buffer that an allocation takes, and its own record, the head of the chain.
-pub struct Spot {
-    pub sheet: Sheet,
-    pub buffer: usize,
-    pub own: usize,
-}
 
 // What an allocation will do.
 pub enum AllocatePlan {
@@ -65,7 +59,7 @@ fn if_free(v: Verdict, p: Spot) -> AllocatePlan
 fn take_chunk(chunk: &[u8], p: Spot) -> AllocatePlan
     requires { ⌜ length (now chunk) ≡ p .sheet .chunk ⌝ }
     requires { ⌜ Lawful (p .sheet) ⌝ }
-    ensures { λ r. ⌜ r ≡ takenChunk (p .sheet) (now (chunk .entry)) (p .own) (p .buffer) ⌝ }
+    ensures { λ r. ⌜ r ≡ takenChunk (now (chunk .entry)) p ⌝ }
 {
     let g = p.sheet;
     let tag = chunk::read_tag(chunk);
@@ -83,41 +77,28 @@ fn take_chunk(chunk: &[u8], p: Spot) -> AllocatePlan
 // The step before it: the head must be a record's address, and that record's word a buffer's.
 fn take_head(heap: &[u8], records: &[u8], g: Sheet) -> AllocatePlan
     requires { ⌜ Open (length (now heap)) (length (now records)) g ⌝ }
-    ensures { λ r. ⌜ r ≡ takenHead g (now (heap .entry)) (now (records .entry)) ⌝ }
+    ensures { λ r. ⌜ r ≡ takenHead (imageIn g (heap .entry) (records .entry)) ⌝ }
 {
-    let head = place::find(g.record_base, record::SIZE, g.count, g.head);
-    match head {
-        Place::Nowhere => AllocatePlan::Refused(Refusal::BrokenHead),
-        Place::At(j) => {
-            let buffer = place::find(
-                g.heap_base,
-                g.chunk,
-                g.count,
-                record::read(records, g.record_base, j, record::BUFFER),
-            );
-            match buffer {
-                Place::Nowhere => AllocatePlan::Refused(Refusal::Damage(Verdict::NotOneRecord)),
-                Place::At(i) => {
-                    let at = i * g.chunk;
-                    let end = at + g.chunk;
-                    take_chunk(
-                        &heap[at..end],
-                        Spot {
-                            sheet: g,
-                            buffer: i,
-                            own: j,
-                        },
-                    )
-                }
-            }
-        }
-    }
+    let head = g.find_record(g.head);
+    let Place::At(own) = head else {
+        return AllocatePlan::Refused(Refusal::BrokenHead);
+    };
+    let named = g.find_buffer(records::buffer(records, g, own));
+    let Place::At(buffer) = named else {
+        return AllocatePlan::Refused(Refusal::Damage(Verdict::NotOneRecord));
+    };
+    let p = Spot {
+        sheet: g,
+        buffer,
+        own,
+    };
+    take_chunk(heap::chunk(heap, g, buffer), p)
 }
 
 // What an allocation of an open image will do.
 fn take(heap: &[u8], records: &[u8], g: Sheet, grant: Grant) -> AllocatePlan
     requires { ⌜ Open (length (now heap)) (length (now records)) g ⌝ }
-    ensures { λ r. ⌜ r ≡ takenOf g (now (heap .entry)) (now (records .entry)) grant ⌝ }
+    ensures { λ r. ⌜ r ≡ takenOf (imageIn g (heap .entry) (records .entry)) grant ⌝ }
 {
     if lawful_size(grant, g.size) {
         if g.head == 0 {
@@ -145,21 +126,17 @@ fn commit(
     heap: &mut [u8],
     records: &mut [u8],
     grant: Grant,
+    stamp: Stamp,
     p: Spot,
-    uptime: u32,
-    thread: u32,
 )
     requires { ⌜ byLengths Takes (lent sheet heap records) grant p ⌝ }
-    ensures { λ _. ⌜ after sheet heap records
-        ≡ grantedAreas (before sheet heap records) grant uptime thread p ⌝ }
+    ensures { λ _. ⌜ after sheet heap records ≡ grantedAreas (before sheet heap records) grant stamp p ⌝ }
 {
     let g = p.sheet;
-    let at = p.buffer * g.chunk;
-    let end = at + g.chunk;
-    let next = record::read(records, g.record_base, p.own, record::NEXT);
-    chunk::write_granted(&mut heap[at..end], g.head, grant);
-    record::stamp(records, p.own, uptime, thread);
-    word::write_u32(sheet, fields::HEAD, next);
+    let next = records::next(records, g, p.own);
+    heap::write_granted(heap, g, p.buffer, g.head, grant);
+    records::set_stamp(records, g, p.own, stamp);
+    fields::set_head(sheet, next);
 }
 
 // Grants a buffer and answers its address, or refuses and leaves every byte as it was.
@@ -168,19 +145,18 @@ pub fn allocate(
     heap: &mut [u8],
     records: &mut [u8],
     grant: Grant,
-    uptime: u32,
-    thread: u32,
+    stamp: Stamp,
 ) -> Answer
     ensures { λ r. ⌜ result r (after sheet heap records)
-        ≡ allocateOf (before sheet heap records) grant uptime thread ⌝ }
+        ≡ allocateOf (before sheet heap records) grant stamp ⌝ }
 {
     let planned = plan(sheet, heap, records, grant);
     match planned {
         AllocatePlan::Refused(why) => Answer::Refused(why),
         AllocatePlan::Take(p) => {
-            commit(sheet, heap, records, grant, p, uptime, thread);
+            commit(sheet, heap, records, grant, stamp, p);
             let g = p.sheet;
-            Answer::Value(g.heap_base + (p.buffer * g.chunk) as u32)
+            Answer::Value(g.buffer_address(p.buffer))
         }
     }
 }

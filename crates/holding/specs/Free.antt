@@ -1,22 +1,22 @@
 -- Free. Assumes nothing.
 use mathlib.Core.Bool.{Bool, true, false, cond}
-use Prim.Native.Nat.{ℕ, _+_, _*_}
+use Prim.Native.Nat.{ℕ}
 use lib.Dec.{eqb}
 use lib.Seq.{sets}
-use Rattle.words.specs.Word.{bytesOf}
-use Rattle.chunks.specs.Chunk.{freeChunk}
-use Rattle.chunks.specs.declared.chunk.Grant.{Grant}
-use Rattle.chunks.specs.declared.chunk.Grant.the-variants.{Whole, Sized}
-use Rattle.sheet.specs.Areas.{Areas, Result, result, refusedWith}
-use Rattle.sheet.specs.Fields.{withHead}
-use Rattle.sheet.specs.Geometry.{recordAddress}
-use Rattle.area.specs.Record.{stamped, recordSize, nextAt}
-use Rattle.holding.specs.Holding.{heldOf, clientAt}
+use Rattle.tags.specs.Refusal.{done}
 use Rattle.tags.specs.declared.refusal.Refusal.the-variants.{OtherGrant}
 use Rattle.tags.specs.declared.refusal.Answer.{Answer}
 use Rattle.tags.specs.declared.refusal.Answer.the-variants.{Refused}
-use Rattle.tags.specs.Refusal.{done}
-use Rattle.holding.specs.declared.holding.Holding.{Holding}
+use Rattle.chunks.specs.Chunk.{freeChunk}
+use Rattle.chunks.specs.declared.chunk.Grant.{Grant}
+use Rattle.chunks.specs.declared.chunk.Grant.the-variants.{Whole, Sized}
+use Rattle.area.specs.Record.{withNext, stamped}
+use Rattle.area.specs.declared.record.Stamp.{Stamp}
+use Rattle.sheet.specs.Areas.{Areas, areas, Result, result, refusedWith, opening, byImage}
+use Rattle.sheet.specs.Fields.{withHead}
+use Rattle.places.specs.Spot.{chunkStart, recordStart}
+use Rattle.places.specs.declared.spot.Spot.{Spot}
+use Rattle.holding.specs.Holding.{heldOf}
 use Rattle.holding.specs.declared.holding.Held.{Held}
 use Rattle.holding.specs.declared.holding.Held.the-variants as held
 
@@ -27,26 +27,26 @@ sameGrant Whole (Sized t) = false
 sameGrant (Sized s) Whole = false
 sameGrant (Sized s) (Sized t) = eqb s t
 
--- X9 (the grant that is named is not the one found), E6
-abbrev pub freedBy : Held → Grant → Held
-freedBy (held.Buffer h) q = cond (sameGrant (h .grant) q) (held.Buffer h) (held.Refused OtherGrant)
-freedBy (held.Refused why) q = held.Refused why
+-- E6, X9 (the grant that is named is not the one found)
+abbrev pub freeTest : Grant → Held → Held
+freeTest q (held.Buffer p) = cond (sameGrant (p .grant) q) (held.Buffer p) (held.Refused OtherGrant)
+freeTest q (held.Refused why) = held.Refused why
 
+-- E6 (free), after E3
 unfoldable pub freePlan : Areas → ℕ → Grant → Held
-freePlan a address q = freedBy (heldOf a address) q
+freePlan a address q = byImage (opening a) a (λ m. freeTest q (heldOf m address)) held.Refused
 
 -- K7 (what free writes): the free chunk, the record's next word, stamp and thread, the new head
-unfoldable pub freedAreas : Areas → ℕ → ℕ → Holding → Areas
-freedAreas a uptime thread h = record {
-  sheet = withHead (a .sheet) (recordAddress (h .sheet) (h .own));
-  heap = sets (a .heap) (clientAt h) (freeChunk (h .sheet .size) (recordAddress (h .sheet) (h .own)));
-  records = stamped (sets (a .records) (h .own * recordSize + nextAt) (bytesOf 4 (h .sheet .head))) (h .own) uptime thread;
-}
+unfoldable pub freedAreas : Areas → Stamp → Spot → Areas
+freedAreas a s p =
+    areas (withHead (a .sheet) (recordStart p))
+    (sets (a .heap) (chunkStart p) (freeChunk (p .sheet .size) (recordStart p)))
+    (stamped (withNext (a .records) (p .own) (p .sheet .head)) (p .own) s)
 
--- K7 (free), E1
-abbrev pub freeBy : Areas → ℕ → ℕ → Held → Result Answer
-freeBy a uptime thread (held.Buffer h) = result done (freedAreas a uptime thread h)
-freeBy a uptime thread (held.Refused why) = refusedWith (Refused why) a
+-- K7 (free), E1: by its plan
+abbrev pub freeResult : Areas → Stamp → Held → Result Answer
+freeResult a s (held.Buffer p) = result done (freedAreas a s (p .spot))
+freeResult a s (held.Refused why) = refusedWith (Refused why) a
 
-unfoldable pub freeOf : Areas → ℕ → Grant → ℕ → ℕ → Result Answer
-freeOf a address q uptime thread = freeBy a uptime thread (freePlan a address q)
+unfoldable pub freeOf : Areas → ℕ → Grant → Stamp → Result Answer
+freeOf a address q s = freeResult a s (freePlan a address q)

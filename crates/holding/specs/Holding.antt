@@ -2,67 +2,65 @@
 use mathlib.Core.Path.{_≡_}
 use mathlib.Core.Bool.{true, cond}
 use mathlib.Core.List.{List}
-use Prim.Native.Nat.{ℕ, _*_}
+use Prim.Native.Nat.{ℕ}
 use lib.Dec.{eqb}
-use lib.ListN.{length}
 use Rattle.tags.specs.Tag.{patternOf}
-use Rattle.chunks.specs.Chunk.{tagAt, lawfulSize}
-use Rattle.chunks.specs.Judge.{allocatedVerdict}
 use Rattle.tags.specs.Verdict.{verdictNumber, verdictValue}
 use Rattle.tags.specs.declared.tag.Pattern.{Pattern}
 use Rattle.tags.specs.declared.tag.Pattern.the-variants as pattern
-use Rattle.chunks.specs.declared.chunk.Grant.{Grant}
-use Rattle.chunks.specs.declared.chunk.Grant.the-variants.{Whole, Sized}
 use Rattle.tags.specs.declared.verdict.Verdict.{Verdict}
 use Rattle.tags.specs.declared.verdict.Verdict.the-variants as verdict
-use Rattle.sheet.specs.Areas.{Areas, Within, chunkAt}
-use Rattle.area.specs.Place.{placeOf, byPlace}
-use Rattle.area.specs.Record.{recordSize, addressWord}
-use Rattle.sheet.specs.Opening.{openedOf, byOpened}
-use Rattle.sheet.specs.declared.geometry.Sheet.{Sheet}
 use Rattle.tags.specs.declared.refusal.Refusal.the-variants.{NoSuchBuffer, Damage, NotAllocated}
+use Rattle.chunks.specs.Chunk.{tagAt, lawfulSize, grantSize}
+use Rattle.chunks.specs.Judge.{allocatedVerdict}
+use Rattle.chunks.specs.declared.chunk.Grant.{Grant}
+use Rattle.chunks.specs.declared.chunk.Grant.the-variants.{Whole, Sized}
+use Rattle.area.specs.Place.{byPlace}
+use Rattle.area.specs.Record.{addressWord}
+use Rattle.sheet.specs.Areas.{Image, chunkAt}
+use Rattle.sheet.specs.Geometry.{bufferOf, recordOf}
+use Rattle.places.specs.Spot.{spot, chunkStart, Within}
+use Rattle.places.specs.declared.spot.Spot.{Spot}
 use Rattle.holding.specs.declared.holding.Holding.{Holding}
 use Rattle.holding.specs.declared.holding.Held.{Held}
 use Rattle.holding.specs.declared.holding.Held.the-variants.{Buffer, Refused}
 
--- buffer i of an image with its record j and its grant
-abbrev pub holding : Sheet → ℕ → ℕ → Grant → Held
-holding g i j q = Buffer (record { sheet = g; buffer = i; own = j; grant = q })
+-- a buffer and its record, with a grant
+abbrev pub holding : Spot → Grant → Holding
+holding p q = record { spot = p; grant = q }
 
 -- E6 (X7 with 27 or 28), J9 (found as granted: 1 whole, 2 with s)
-abbrev pub heldAs : Verdict → Sheet → ℕ → ℕ → Held
-heldAs v g i j =
-    cond (eqb (verdictNumber v) 1) (holding g i j Whole)
-    (cond (eqb (verdictNumber v) 2) (holding g i j (Sized (verdictValue v))) (Refused (Damage v)))
+abbrev pub heldAs : Verdict → Spot → Held
+heldAs v p =
+    cond (eqb (verdictNumber v) 1) (Buffer (holding p Whole))
+    (cond (eqb (verdictNumber v) 2) (Buffer (holding p (Sized (verdictValue v)))) (Refused (Damage v)))
 
 -- E6 (neither pattern 21; X8), then the allocated chunk's own bytes
-abbrev pub heldBy : Pattern → List ℕ → Sheet → ℕ → ℕ → Held
-heldBy pattern.Neither c g i j = Refused (Damage verdict.BadTag)
-heldBy pattern.Free c g i j = Refused NotAllocated
-heldBy pattern.Allocated c g i j = heldAs (allocatedVerdict c) g i j
+abbrev pub heldBy : Pattern → List ℕ → Spot → Held
+heldBy pattern.Neither c p = Refused (Damage verdict.BadTag)
+heldBy pattern.Free c p = Refused NotAllocated
+heldBy pattern.Allocated c p = heldAs (allocatedVerdict c) p
 
--- E6 (X7 with 21: T0 is no record's address, or that record does not name this buffer), for the chunk c of buffer i at the address a
-unfoldable pub heldChunk : Sheet → List ℕ → List ℕ → ℕ → ℕ → Held
-heldChunk g c records a i =
-    byPlace (placeOf (g .«record_base») recordSize (g .count) (tagAt c .t0))
-    (λ j. cond (eqb (addressWord records j) a) (heldBy (patternOf (tagAt c)) c g i j) (Refused (Damage verdict.BadTag)))
+-- E6 (X7 with 21: T0 is no record's address, or that record does not name this buffer), for the chunk c of buffer i at an address
+unfoldable pub heldChunk : Image → List ℕ → ℕ → ℕ → Held
+heldChunk m c address i =
+    byPlace (recordOf (m .sheet) (tagAt c .t0))
+    (λ j. cond (eqb (addressWord (m .records) j) address) (heldBy (patternOf (tagAt c)) c (spot (m .sheet) i j)) (Refused (Damage verdict.BadTag)))
     (Refused (Damage verdict.BadTag))
 
--- X4 (the address is no buffer's)
-unfoldable pub heldAt : Sheet → List ℕ → List ℕ → ℕ → Held
-heldAt g heap records a =
-    byPlace (placeOf (g .«heap_base») (g .chunk) (g .count) a) (λ i. heldChunk g (chunkAt g heap i) records a i) (Refused NoSuchBuffer)
+-- E6 (free, store and show: X4, X7 with 21, X8, X7 with 27 or 28), in an image
+unfoldable pub heldOf : Image → ℕ → Held
+heldOf m address = byPlace (bufferOf (m .sheet) address) (λ i. heldChunk m (chunkAt m i) address i) (Refused NoSuchBuffer)
 
--- E6 (free, store and show: X4, X7 with 21, X8, X7 with 27 or 28), after E3
-unfoldable pub heldOf : Areas → ℕ → Held
-heldOf a address = byOpened (openedOf (a .sheet) (length (a .heap)) (length (a .records))) (λ g. heldAt g (a .heap) (a .records) address) Refused
-
--- where the client's own bytes start in the heap
+-- C5 (where the client's own bytes start in the heap, and how many they are)
 abbrev pub clientAt : Holding → ℕ
-clientAt h = h .buffer * h .sheet .chunk
+clientAt p = chunkStart (p .spot)
+
+abbrev pub clientSize : Holding → ℕ
+clientSize p = grantSize (p .spot .sheet .size) (p .grant)
 
 -- ---- what is known of a buffer that is held, in areas of s, h and r bytes
 
-pub record Holds (s h r : ℕ) (p : Holding) : Type 0 where
-  pub ready : Within s h r (p .sheet) (p .buffer) (p .own)
-  pub granted : lawfulSize (p .sheet .size) (p .grant) ≡ true
+pub record HeldWithin (s h r : ℕ) (p : Holding) : Type 0 where
+  pub within : Within s h r (p .spot)
+  pub granted : lawfulSize (p .spot .sheet .size) (p .grant) ≡ true

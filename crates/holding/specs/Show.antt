@@ -4,22 +4,21 @@ use mathlib.Core.List.{List, []}
 use Prim.Native.Nat.{ℕ, _+_}
 use denote.Ref.{RefT}
 use Rattle.words.specs.Word.{part}
-use Rattle.chunks.specs.Chunk.{grantSize}
-use Rattle.sheet.specs.Areas.{Areas, PartAt}
-use Rattle.holding.specs.Holding.{heldOf, clientAt}
+use Rattle.sheet.specs.Areas.{Areas, opening, byImage, PartAt}
+use Rattle.holding.specs.Holding.{heldOf, clientAt, clientSize}
 use Rattle.holding.specs.declared.holding.Held.{Held}
 use Rattle.holding.specs.declared.holding.Held.the-variants as held
 use Rattle.holding.specs.declared.show.Shown.{Shown}
 use Rattle.holding.specs.declared.show.Shown.the-variants.{Client, Refused}
 
 -- K10, C5 (where the client's bytes are, and how many)
-abbrev pub shownBy : Held → Shown
-shownBy (held.Buffer h) = Client (clientAt h) (grantSize (h .sheet .size) (h .grant))
-shownBy (held.Refused why) = Refused why
+abbrev pub showResult : Held → Shown
+showResult (held.Buffer p) = Client (clientAt p) (clientSize p)
+showResult (held.Refused why) = Refused why
 
--- K10, after E6
+-- K10, E6 (show), after E3
 unfoldable pub shownOf : Areas → ℕ → Shown
-shownOf a address = shownBy (heldOf a address)
+shownOf a address = byImage (opening a) a (λ m. showResult (heldOf m address)) Refused
 
 -- K10 (the part handed back), E1 (of a refusal, none)
 abbrev pub shownPart : List ℕ → Shown → List ℕ

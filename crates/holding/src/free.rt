@@ -1,18 +1,24 @@
 // Free: a plan that only reads, and a commit that cannot fail.
 ghost use mathlib.Core.Path.{_≡_};
-ghost use Rattle.sheet.specs.Areas.{lent, before, after, byLengths, result};
-ghost use Rattle.holding.specs.Holding.{Holds};
-ghost use Rattle.holding.specs.Free.{sameGrant, freePlan, freedAreas, freeOf};
+ghost use lib.ListN.{length};
+ghost use Rattle.sheet.specs.Areas.{lent, before, after, byLengths, result, imageIn};
+ghost use Rattle.sheet.specs.Opening.{Open};
+ghost use Rattle.places.specs.Spot.{Within};
+ghost use Rattle.holding.specs.Holding.{heldOf};
+ghost use Rattle.holding.specs.Free.{sameGrant, freeTest, freePlan, freedAreas, freeOf};
 use crate::holding;
 use crate::holding::Held;
-use crate::holding::Holding;
-use area::record;
-use chunks::chunk;
+use area::record::Stamp;
 use chunks::chunk::Grant;
+use places::heap;
+use places::records;
+use places::spot::Spot;
+use sheet::fields;
+use sheet::geometry::Sheet;
 use sheet::opening;
+use sheet::opening::Opened;
 use tags::refusal::Answer;
 use tags::refusal::Refusal;
-use words::word;
 
 // Whether two grants are the same size, or whole both.
 fn same_grant(a: Grant, b: Grant) -> bool
@@ -30,16 +36,17 @@ fn same_grant(a: Grant, b: Grant) -> bool
     }
 }
 
-// The buffer that a free takes back, or why it does not.
-fn plan(sheet: &[u8], heap: &[u8], records: &[u8], address: u32, grant: Grant) -> Held
-    ensures { λ r. ⌜ r ≡ freePlan (before sheet heap records) address grant ⌝ }
+// The buffer of an open image that a free takes back, or why it does not.
+fn take_back(heap: &[u8], records: &[u8], g: Sheet, address: u32, grant: Grant) -> Held
+    requires { ⌜ Open (length (now heap)) (length (now records)) g ⌝ }
+    ensures { λ r. ⌜ r ≡ freeTest grant (heldOf (imageIn g (heap .entry) (records .entry)) address) ⌝ }
 {
-    let h = holding::hold(sheet, heap, records, address);
-    match h {
+    let held = holding::hold(heap, records, g, address);
+    match held {
         Held::Refused(why) => Held::Refused(why),
         Held::Buffer(p) => {
-            let held = p.grant;
-            if same_grant(held, grant) {
+            let granted = p.grant;
+            if same_grant(granted, grant) {
                 return Held::Buffer(p);
             }
             Held::Refused(Refusal::OtherGrant)
@@ -47,27 +54,28 @@ fn plan(sheet: &[u8], heap: &[u8], records: &[u8], address: u32, grant: Grant) -
     }
 }
 
+// The buffer that a free takes back, or why it does not. It reads and writes nothing.
+fn plan(sheet: &[u8], heap: &[u8], records: &[u8], address: u32, grant: Grant) -> Held
+    ensures { λ r. ⌜ r ≡ freePlan (before sheet heap records) address grant ⌝ }
+{
+    let opened = opening::open(sheet, heap.len(), records.len());
+    match opened {
+        Opened::Refused(why) => Held::Refused(why),
+        Opened::Sheet(g) => take_back(heap, records, g, address, grant),
+    }
+}
+
 // Writes what a free changes: the chunk, the record's next word, stamp and thread, and the head.
-fn commit(
-    sheet: &mut [u8],
-    heap: &mut [u8],
-    records: &mut [u8],
-    p: Holding,
-    uptime: u32,
-    thread: u32,
-)
-    requires { ⌜ byLengths Holds (lent sheet heap records) p ⌝ }
-    ensures { λ _. ⌜ after sheet heap records ≡ freedAreas (before sheet heap records) uptime thread p ⌝ }
+fn commit(sheet: &mut [u8], heap: &mut [u8], records: &mut [u8], stamp: Stamp, p: Spot)
+    requires { ⌜ byLengths Within (lent sheet heap records) p ⌝ }
+    ensures { λ _. ⌜ after sheet heap records ≡ freedAreas (before sheet heap records) stamp p ⌝ }
 {
     let g = p.sheet;
-    let at = p.buffer * g.chunk;
-    let end = at + g.chunk;
-    let slot = p.own * record::SIZE;
-    let record_at = g.record_base + slot as u32;
-    chunk::write_free(&mut heap[at..end], record_at);
-    word::write_u32(records, slot + record::NEXT, g.head);
-    record::stamp(records, p.own, uptime, thread);
-    word::write_u32(sheet, fields::HEAD, record_at);
+    let record_at = g.record_address(p.own);
+    heap::write_free(heap, g, p.buffer, record_at);
+    records::set_next(records, g, p.own, g.head);
+    records::set_stamp(records, g, p.own, stamp);
+    fields::set_head(sheet, record_at);
 }
 
 // Frees the buffer at an address, or refuses and leaves every byte as it was.
@@ -77,17 +85,17 @@ pub fn free(
     records: &mut [u8],
     address: u32,
     grant: Grant,
-    uptime: u32,
-    thread: u32,
+    stamp: Stamp,
 ) -> Answer
     ensures { λ r. ⌜ result r (after sheet heap records)
-        ≡ freeOf (before sheet heap records) address grant uptime thread ⌝ }
+        ≡ freeOf (before sheet heap records) address grant stamp ⌝ }
 {
-    let h = plan(sheet, heap, records, address, grant);
-    match h {
+    let planned = plan(sheet, heap, records, address, grant);
+    match planned {
         Held::Refused(why) => Answer::Refused(why),
         Held::Buffer(p) => {
-            commit(sheet, heap, records, p, uptime, thread);
+            let spot = p.spot;
+            commit(sheet, heap, records, stamp, spot);
             Answer::Value(0)
         }
     }

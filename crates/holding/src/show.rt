@@ -1,9 +1,15 @@
 // Show: the client's own bytes, as a part of the heap.
 ghost use mathlib.Core.Path.{_≡_};
-ghost use Rattle.sheet.specs.Areas.{before};
-ghost use Rattle.holding.specs.Show.{shownOf, shownPart, ShownPlace};
+ghost use lib.ListN.{length};
+ghost use Rattle.sheet.specs.Areas.{before, imageIn};
+ghost use Rattle.sheet.specs.Opening.{Open};
+ghost use Rattle.holding.specs.Holding.{heldOf};
+ghost use Rattle.holding.specs.Show.{showResult, shownOf, shownPart, ShownPlace};
 use crate::holding;
 use crate::holding::Held;
+use sheet::geometry::Sheet;
+use sheet::opening;
+use sheet::opening::Opened;
 use tags::refusal::Refusal;
 
 // Where the client's bytes start in the heap, and how many they are; or why they are not shown.
@@ -12,18 +18,26 @@ pub enum Shown {
     Refused(Refusal),
 }
 
+// Finds the client's bytes of the buffer at an address of an open image.
+fn locate(heap: &[u8], records: &[u8], g: Sheet, address: u32) -> Shown
+    requires { ⌜ Open (length (now heap)) (length (now records)) g ⌝ }
+    ensures { λ r. ⌜ r ≡ showResult (heldOf (imageIn g (heap .entry) (records .entry)) address) ⌝ }
+{
+    let held = holding::hold(heap, records, g, address);
+    match held {
+        Held::Refused(why) => Shown::Refused(why),
+        Held::Buffer(p) => Shown::Client(holding::client_place(p), holding::client_size(p)),
+    }
+}
+
 // Finds the client's bytes of the buffer at an address.
 pub fn find_client(sheet: &[u8], heap: &[u8], records: &[u8], address: u32) -> Shown
     ensures { λ r. ⌜ r ≡ shownOf (before sheet heap records) address ⌝ }
 {
-    let h = holding::hold(sheet, heap, records, address);
-    match h {
-        Held::Refused(why) => Shown::Refused(why),
-        Held::Buffer(p) => {
-            let g = p.sheet;
-            let grant = p.grant;
-            Shown::Client(p.buffer * g.chunk, holding::client_size(g, grant))
-        }
+    let opened = opening::open(sheet, heap.len(), records.len());
+    match opened {
+        Opened::Refused(why) => Shown::Refused(why),
+        Opened::Sheet(g) => locate(heap, records, g, address),
     }
 }
 
@@ -33,8 +47,8 @@ pub fn show<'a>(sheet: &[u8], heap: &'a [u8], records: &[u8], address: u32) -> &
         ≡ shownPart (now (heap .entry)) (shownOf (before sheet heap records) address) ⌝ }
     ensures place { λ r. ⌜ ShownPlace (heap .entry) (shownOf (before sheet heap records) address) r ⌝ }
 {
-    let c = find_client(sheet, heap, records, address);
-    match c {
+    let shown = find_client(sheet, heap, records, address);
+    match shown {
         Shown::Refused(_) => &heap[0..0],
         Shown::Client(at, len) => {
             let end = at + len;

@@ -1,25 +1,29 @@
 // Store: a plan that only reads, and a commit that cannot fail.
 ghost use mathlib.Core.Path.{_≡_};
-ghost use Prim.Native.Nat.{_+_, _*_};
-ghost use Rattle.sheet.specs.Areas.{before, after, result};
-ghost use Rattle.holding.specs.Store.{storePlan, storeOf};
+ghost use lib.ListN.{length};
+ghost use Rattle.sheet.specs.Areas.{before, after, result, imageIn};
+ghost use Rattle.sheet.specs.Opening.{Open};
+ghost use Rattle.holding.specs.Holding.{heldOf};
+ghost use Rattle.holding.specs.Store.{storeTest, storePlan, storeOf};
 use crate::holding;
 use crate::holding::Held;
+use sheet::geometry::Sheet;
+use sheet::opening;
+use sheet::opening::Opened;
 use tags::refusal::Answer;
 use tags::refusal::Refusal;
 use words::run;
 
-// The buffer that a store of so many bytes at an offset writes to, or why it does not.
-fn plan(sheet: &[u8], heap: &[u8], records: &[u8], address: u32, offset: u32, len: usize) -> Held
-    ensures { λ r. ⌜ r ≡ storePlan (before sheet heap records) address offset len ⌝ }
+// The buffer of an open image that a store of so many bytes at an offset writes to, or why it does not.
+fn fit(heap: &[u8], records: &[u8], g: Sheet, address: u32, offset: u32, len: usize) -> Held
+    requires { ⌜ Open (length (now heap)) (length (now records)) g ⌝ }
+    ensures { λ r. ⌜ r ≡ storeTest offset len (heldOf (imageIn g (heap .entry) (records .entry)) address) ⌝ }
 {
-    let h = holding::hold(sheet, heap, records, address);
-    match h {
+    let held = holding::hold(heap, records, g, address);
+    match held {
         Held::Refused(why) => Held::Refused(why),
         Held::Buffer(p) => {
-            let g = p.sheet;
-            let grant = p.grant;
-            let most = holding::client_size(g, grant);
+            let most = holding::client_size(p);
             let from = offset as usize;
             if most < from {
                 return Held::Refused(Refusal::PastClient);
@@ -29,6 +33,17 @@ fn plan(sheet: &[u8], heap: &[u8], records: &[u8], address: u32, offset: u32, le
             }
             Held::Buffer(p)
         }
+    }
+}
+
+// The buffer that a store writes to, or why it does not. It reads and writes nothing.
+fn plan(sheet: &[u8], heap: &[u8], records: &[u8], address: u32, offset: u32, len: usize) -> Held
+    ensures { λ r. ⌜ r ≡ storePlan (before sheet heap records) address offset len ⌝ }
+{
+    let opened = opening::open(sheet, heap.len(), records.len());
+    match opened {
+        Opened::Refused(why) => Held::Refused(why),
+        Opened::Sheet(g) => fit(heap, records, g, address, offset, len),
     }
 }
 
@@ -44,12 +59,11 @@ pub fn store(
     ensures { λ r. ⌜ result r (after sheet heap records)
         ≡ storeOf (before sheet heap records) address offset (now (bytes .entry)) ⌝ }
 {
-    let h = plan(sheet, heap, records, address, offset, bytes.len());
-    match h {
+    let planned = plan(sheet, heap, records, address, offset, bytes.len());
+    match planned {
         Held::Refused(why) => Answer::Refused(why),
         Held::Buffer(p) => {
-            let g = p.sheet;
-            let at = p.buffer * g.chunk;
+            let at = holding::client_place(p);
             run::write_run(heap, at + offset as usize, bytes);
             Answer::Value(0)
         }

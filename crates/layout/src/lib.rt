@@ -5,34 +5,15 @@
 ghost use mathlib.Core.Path.{_≡_};
 ghost use Rattle.sheet.specs.Areas.{lent, before, after, byLengths, result};
 ghost use Rattle.layout.specs.Layout.{laidAreas, layOutOf, layOutPlan, Planned};
-ghost use Rattle.sheet.specs.Geometry.{laidSheet};
+use sheet::fields;
 use sheet::geometry::Sheet;
 use sheet::opening;
 use sheet::opening::Opened;
 use tags::refusal::Answer;
 use tags::refusal::Refusal;
 
-// The bytes of the sheet.
-mod fields;
-
 // The chunks and the records.
-mod places;
-
-// The numbers of the sheet that a request asks for.
-fn sheet_for(cache: u32, heap_base: u32, record_base: u32, size: u32, count: u32) -> Sheet
-    ensures { λ r. ⌜ r ≡ laidSheet cache «heap_base» «record_base» size count ⌝ }
-{
-    Sheet {
-        cache,
-        heap: heap_base,
-        records: record_base,
-        size: size as usize,
-        chunk: size as usize + 16,
-        count: count as usize,
-        head: record_base,
-        flags: fields::FLAGS,
-    }
-}
+mod areas;
 
 // Whether areas of these lengths can be laid out with these numbers: the tests 1, 2 and 3.
 fn plan(g: Sheet, sheet_len: usize, heap_len: usize, records_len: usize) -> Opened
@@ -49,9 +30,9 @@ fn commit(sheet: &mut [u8], heap: &mut [u8], records: &mut [u8], g: Sheet)
     requires { ⌜ byLengths Planned (lent sheet heap records) g ⌝ }
     ensures { λ _. ⌜ after sheet heap records ≡ laidAreas g ⌝ }
 {
-    fields::write_sheet(sheet, g);
-    places::write_heap(heap, g);
-    places::write_records(records, g);
+    fields::write(sheet, g);
+    areas::write_heap(heap, g);
+    areas::write_records(records, g);
 }
 
 // Lays an image out, or refuses and leaves every byte as it was.
@@ -68,7 +49,7 @@ pub fn lay_out(
     ensures { λ r. ⌜ result r (after sheet heap records)
         ≡ layOutOf (before sheet heap records) cache «heap_base» «record_base» size count ⌝ }
 {
-    let asked = sheet_for(cache, heap_base, record_base, size, count);
+    let asked = Sheet::laid(cache, heap_base, record_base, size, count);
     let planned = plan(asked, sheet.len(), heap.len(), records.len());
     match planned {
         Opened::Refused(why) => Answer::Refused(why),

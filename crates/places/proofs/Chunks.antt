@@ -18,6 +18,10 @@ use Rattle.sheet.proofs.Sheets.{chunk-inside, chunk-small, chunk-length}
 pub small : (g : Sheet) (i at : ℕ) → Lawful g → i < g .count → at ≡ chunkPlace g i → at + g .chunk ≤ 65536
 small g i at law h e = let c = chunk-small g law i h in omega arith
 
+-- it is as long as the sheet says
+pub chunk-long : (l : List ℕ) (g : Sheet) (i : ℕ) → Lawful g → length l ≡ heapLength g → i < g .count → length (chunkIn g l i) ≡ g .chunk
+chunk-long l g i law long h = let c = chunk-inside g law i h in length-part l (chunkPlace g i) (g .chunk) (omega arith)
+
 module _ (l : List ℕ) (g : Sheet) (i at : ℕ) (law : Lawful g) (long : length l ≡ heapLength g) (h : i < g .count) (e : at ≡ chunkPlace g i) where
   -- it lies in the heap
   pub inside : at + g .chunk ≤ length l

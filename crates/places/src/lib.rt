@@ -7,3 +7,6 @@ pub mod heap;
 
 // The records.
 pub mod records;
+
+// A buffer and its own record.
+pub mod spot;

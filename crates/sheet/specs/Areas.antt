@@ -1,15 +1,14 @@
 -- The three areas that a call is lent, what a call leaves in them, and the image that they are once they are open. Assumes nothing.
 use mathlib.Core.Path.{_≡_}
 use mathlib.Core.List.{List}
-use Prim.Native.Nat.{ℕ, _+_, _<_}
+use Prim.Native.Nat.{ℕ, _+_}
 use lib.ListN.{length}
 use denote.Ref.{RefT, now}
 use denote.Triple.Both.{Both}
 use Rattle.words.specs.Word.{part}
 use Rattle.tags.specs.declared.refusal.Refusal.{Refusal}
 use Rattle.sheet.specs.Geometry.{chunkPlace}
-use Rattle.sheet.specs.Fields.{sheetLength}
-use Rattle.sheet.specs.Opening.{Open, openedOf, openedWithLog, byOpened}
+use Rattle.sheet.specs.Opening.{openedOf, openedWithLog, byOpened}
 use Rattle.sheet.specs.declared.geometry.Sheet.{Sheet}
 use Rattle.sheet.specs.declared.opening.Opened.{Opened}
 
@@ -100,11 +99,3 @@ chunkAt m i = chunkIn (m .sheet) (m .heap) i
 -- L4, K10 (a part of the area it lies in): a part that starts `at` bytes behind the area's own start; a reference is an allocation and an offset in it
 abbrev pub PartAt : RefT (List ℕ) → ℕ → RefT (List ℕ) → Type 0
 PartAt area at p = (p .ptr .0 ≡ area .ptr .0) × (p .ptr .1 ≡ area .ptr .1 + at)
-
--- ---- what a plan promises to who carries it out: all that is written for buffer i and record j lies in the areas, of s, h and r bytes
-
-pub record Within (s h r : ℕ) (g : Sheet) (i j : ℕ) : Type 0 where
-  pub long : s ≡ sheetLength
-  pub opened : Open h r g
-  pub buffer : i < g .count
-  pub own : j < g .count

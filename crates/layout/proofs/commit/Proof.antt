@@ -8,7 +8,7 @@ returns : tie.Need-returns
 unfolding laidAreas
 returns c =
     let h = c .before .before .before .before .before .before in
-    rw (h .before .before .before .before .write-sheet .ensures, h .write-heap .ensures, c .before .before .write-records .ensures)
+    rw (h .before .before .before .before .write .ensures, h .write-heap .ensures, c .before .before .write-records .ensures)
 
 pub commit-spec : {M : Type 1} → statement M
 commit-spec =

@@ -15,14 +15,14 @@ returns : tie.Need-returns
 unfolding layOutOf
 returns c =
     let p = c .before in
-    rw (← p .before .before .before .sheet-for .ensures, ← p .before .before .plan .ensures, p .planned .given .1)
+    rw (← p .before .before .before .laid .ensures, ← p .before .before .plan .ensures, p .planned .given .1)
 
 returns-2 : tie.Need-returns-2
 unfolding layOutOf
 returns-2 c =
     let w = c .before .before .before .before .before .before in
     let p = w .before .before .before .before .before in
-    rw (← p .before .before .before .sheet-for .ensures, ← p .before .before .plan .ensures, p .planned2 .given .1, w .commit .ensures)
+    rw (← p .before .before .before .laid .ensures, ← p .before .before .plan .ensures, p .planned2 .given .1, w .commit .ensures)
 
 pub lay-out-spec : {M : Type 1} → statement M
 lay-out-spec =

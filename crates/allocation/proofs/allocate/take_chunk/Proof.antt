@@ -8,7 +8,7 @@ use Rattle.allocation.proofs.allocate.take_chunk.Tie as tie
 
 -- T0 is the head, so that the pattern decides
 decided : (c : tie.After-pattern) → let a = c .before .before .before .before .before .before .before .args in
-    takenChunk (a .p .sheet) (a .chunk .now) (a .p .own) (a .p .buffer) ≡ takenBy (c .pattern .result) (a .chunk .now) (a .p)
+    takenChunk (a .chunk .now) (a .p) ≡ takenBy (c .pattern .result) (a .chunk .now) (a .p)
 unfolding takenChunk
 decided c =
     rw (← c .before .before .before .before .read-tag .ensures, eq-eqb _ _ (c .before .if1 .left), ← c .pattern .ensures)

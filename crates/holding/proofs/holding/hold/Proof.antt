@@ -1,17 +1,21 @@
--- The image is opened, and then the address decides. Assumes nothing.
+-- The address is a buffer's, and that buffer's chunk decides. Assumes nothing.
 use mathlib.Core.Path.{sym, _∙_}
 use borrow.Author.Needs.{needs}
-use Rattle.sheet.proofs.Opens.{opened-known}
+use Rattle.area.proofs.Places.{place-found}
 use Rattle.holding.specs.Holding.{heldOf}
 use Rattle.holding.proofs.holding.hold.Statement.{statement}
 use Rattle.holding.proofs.holding.hold.Tie as tie
+
+held-chunk-requires : tie.Need-held-chunk-requires
+held-chunk-requires c κs =
+    let f = c .before in
+    (f .before .before .before .before .before .pre, place-found _ _ _ _ _ (sym (f .before .before .find-buffer .ensures) ∙ f .found .given .1) .0)
 
 pub hold-spec : {M : Type 1} → statement M
 unfolding heldOf
 hold-spec =
     tie.close
     (tie.spec
-    (λ c κs. search needs) (λ c. search needs) (λ c. search needs)
-    (λ c κs. opened-known _ _ _ _ (sym (c .before .before .before .«open» .ensures) ∙ c .before .opened2 .given .1) .opens)
-    (λ c. rw (← c .before .before .before .«open» .ensures, c .before .opened .given .1))
-    (λ c. rw (← c .before .before .before .before .«open» .ensures, c .before .before .opened2 .given .1) (c .held-at .ensures)))
+    (λ c κs. search needs) (λ c. search needs) (λ c. search needs) held-chunk-requires
+    (λ c. rw (← c .before .before .find-buffer .ensures, c .enum-told .given .1))
+    (λ c. rw (← c .before .before .before .before .find-buffer .ensures, c .before .before .found .given .1) (c .held-chunk .ensures)))
