@@ -25,7 +25,7 @@ pub fn is_log(len: usize) -> bool
 }
 
 // The address of the record that row k names.
-pub fn record(log: &[u8], k: usize) -> u32
+pub fn row_record(log: &[u8], k: usize) -> u32
     requires { ⌜ k * rowSize + rowSize ≤ length (now log) ⌝ }
     ensures { λ r. ⌜ r ≡ rowRecord (now (log .entry)) k ⌝ }
 {
@@ -33,7 +33,7 @@ pub fn record(log: &[u8], k: usize) -> u32
 }
 
 // The uptime of row k.
-pub fn uptime(log: &[u8], k: usize) -> u32
+pub fn row_uptime(log: &[u8], k: usize) -> u32
     requires { ⌜ k * rowSize + rowSize ≤ length (now log) ⌝ }
     ensures { λ r. ⌜ r ≡ rowUptime (now (log .entry)) k ⌝ }
 {

@@ -21,7 +21,7 @@ use Rattle.sheet.proofs.Sheets.{record-inside}
 use Rattle.verdicts.specs.Pairing.{ownIn, byOwn}
 use Rattle.verdicts.specs.declared.pairing.Own.{Own}
 use Rattle.verdicts.specs.declared.pairing.Own.the-variants.{One, NotOne}
-use Rattle.verdicts.proofs.Pairs.{own-below}
+use Rattle.verdicts.proofs.Owns.{own-below}
 use Rattle.transactions.specs.Latest.{latestRow, firstBest, rowOrRecord, ownedLatest, indexedLatest, latestOf}
 use Rattle.transactions.specs.declared.latest.Transaction.{Transaction}
 use Rattle.transactions.specs.declared.latest.Transaction.the-variants.{Row, Record, Refused}

@@ -39,10 +39,10 @@ fn consider(log: &[u8], k: usize, record_at: u32, time: u32, best: Best) -> Best
     requires { ⌜ k * rowSize + rowSize ≤ length (now log) ⌝ }
     ensures { λ r. ⌜ r ≡ considered (now (log .entry)) «record_at» time k best ⌝ }
 {
-    if log::record(log, k) != record_at {
+    if log::row_record(log, k) != record_at {
         return best;
     }
-    let a = age::age(time, log::uptime(log, k));
+    let a = age::age(time, log::row_uptime(log, k));
     if best.age < a {
         return best;
     }

@@ -11,13 +11,13 @@ consider-spec =
     tie.close
     (tie.spec
     (λ c κs. search needs)
-    (λ c. rw (← c .before .record .ensures, ne-eqb _ _ (c .if1 .taken)))
+    (λ c. rw (← c .before .row-record .ensures, ne-eqb _ _ (c .if1 .taken)))
     (λ c κs. search needs) (λ c κs. search needs)
     (λ c.
-    let g = c .before in
+    let g = c .before .before in
     let i = g .before .before in
-    rw (← i .before .record .ensures, eq-eqb _ _ (i .if1 .left), ← g .before .uptime .ensures, ← g .age .ensures, lt-leb _ _ (c .if2 .taken)))
+    rw (← i .before .row-record .ensures, eq-eqb _ _ (i .if1 .left), ← g .before .row-uptime .ensures, ← g .age .ensures, lt-leb _ _ (c .if2 .taken)))
     (λ c.
-    let g = c .before in
+    let g = c .before .before in
     let i = g .before .before in
-    rw (← i .before .record .ensures, eq-eqb _ _ (i .if1 .left), ← g .before .uptime .ensures, ← g .age .ensures, le-leb _ _ (c .if2 .left))))
+    rw (← i .before .row-record .ensures, eq-eqb _ _ (i .if1 .left), ← g .before .row-uptime .ensures, ← g .age .ensures, le-leb _ _ (c .if2 .left))))

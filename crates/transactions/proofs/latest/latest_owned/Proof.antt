@@ -11,8 +11,15 @@ decided : (c : tie.After-latest-row) → let a = c .before .before .before .befo
     ownedLatest (a .g) (a .records .now) (a .log .now) (a .time) (a .j) ≡ rowOrRecord (c .latest-row .result .row) (a .j)
 unfolding ownedLatest
 decided c =
-    let i = c .before .before .before in
-    rw (← i .before .read .ensures, eq-eqb _ _ (i .if1 .left), ← c .before .read2 .ensures, ← c .latest-row .ensures)
+    let l = c .before .before in
+    let h = l .before .before in
+    rw (
+      ← h .stamp-high .ensures,
+      eq-eqb _ _ (l .before .if1 .left),
+      ← l .stamp-low .ensures,
+      ← c .before .record-address .ensures,
+      ← c .latest-row .ensures,
+    )
 
 pub latest-owned-spec : {M : Type 1} → statement M
 unfolding ownedLatest
@@ -20,7 +27,7 @@ latest-owned-spec =
     tie.close
     (tie.spec
     (λ c κs. search needs)
-    (λ c. rw (← c .before .read .ensures, ne-eqb _ _ (c .if1 .taken)))
-    (λ c. search needs) (λ c. search needs) (λ c. search needs) (λ c κs. search needs) (λ c κs. search needs) (λ c. search needs) (λ c. search needs)
+    (λ c. rw (← c .before .stamp-high .ensures, ne-eqb _ _ (c .if1 .taken)))
+    (λ c κs. search needs) (λ c κs. search needs) (λ c κs. search needs) (λ c. search needs) (λ c. search needs)
     (λ c. rw (decided (c .before .before .before), c .before .row .given .1))
     (λ c. rw (decided (c .before .before), c .enum-told .given .1)))

@@ -1,9 +1,0 @@
--- The word is read at its offset in the row. Assumes nothing.
-use borrow.Author.Needs.{needs}
-use Rattle.area.specs.Log.{rowRecord}
-use Rattle.area.proofs.log.record.Statement.{statement}
-use Rattle.area.proofs.log.record.Tie as tie
-
-pub record-spec : {M : Type 1} → statement M
-unfolding rowRecord
-record-spec = tie.close (tie.spec (λ c. search needs) (λ c. search needs) (λ c κs. search needs) (λ c. c .read-u32 .ensures))

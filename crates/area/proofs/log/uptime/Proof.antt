@@ -1,9 +1,0 @@
--- The word is read at its offset in the row. Assumes nothing.
-use borrow.Author.Needs.{needs}
-use Rattle.area.specs.Log.{rowUptime}
-use Rattle.area.proofs.log.uptime.Statement.{statement}
-use Rattle.area.proofs.log.uptime.Tie as tie
-
-pub uptime-spec : {M : Type 1} → statement M
-unfolding rowUptime
-uptime-spec = tie.close (tie.spec (λ c. search needs) (λ c. search needs) (λ c κs. search needs) (λ c. c .read-u32 .ensures))
