@@ -1,7 +1,7 @@
 -- The format of the log. Assumes nothing.
 use mathlib.Core.Bool.{Bool, _&&_}
 use mathlib.Core.List.{List}
-use Prim.Native.Nat.{ℕ, _+_, _*_, _%_}
+use Prim.Native.Nat.{ℕ, _+_, _*_, _/_, _%_}
 use lib.Dec.{eqb, leb}
 use Rattle.words.specs.Word.{numberAt}
 
@@ -11,6 +11,10 @@ rowSize = 16
 
 abbrev pub logMost : ℕ
 logMost = 16384
+
+-- A4 (the rows of a log of l bytes)
+abbrev pub rowsOf : ℕ → ℕ
+rowsOf l = l / rowSize
 
 -- A4, X3 (the length of a log): a multiple of a row's, and not too long
 unfoldable pub logRight : ℕ → Bool

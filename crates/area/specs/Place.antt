@@ -1,7 +1,10 @@
 -- Which place of an area an address is. Assumes nothing.
+use mathlib.Core.Path.{_≡_}
 use mathlib.Core.Bool.{_&&_, cond}
+use mathlib.Core.List.{List}
 use Prim.Native.Nat.{ℕ, zero, suc, _+_, _*_}
 use lib.Dec.{eqb, ltb}
+use denote.Ref.{RefT}
 use Rattle.area.specs.declared.place.Place.{Place}
 use Rattle.area.specs.declared.place.Place.the-variants.{At, Nowhere}
 
@@ -13,6 +16,10 @@ placeAddress base stride i = base + i * stride
 unfoldable pub placeOf : ℕ → ℕ → ℕ → ℕ → Place
 placeOf base stride zero w = Nowhere
 placeOf base stride (suc i) w = cond (eqb w (placeAddress base stride i) && ltb 0 stride) (At i) (placeOf base stride i w)
+
+-- L4, K10 (a part of the area it lies in): a part that starts `at` bytes behind the area's own start; a reference is an allocation and an offset in it
+abbrev pub PartAt : RefT (List ℕ) → ℕ → RefT (List ℕ) → Type 0
+PartAt area at p = (p .ptr .0 ≡ area .ptr .0) × (p .ptr .1 ≡ area .ptr .1 + at)
 
 -- by the place that a word is the address of
 abbrev pub byPlace : {A : Type 0} → Place → (ℕ → A) → A → A

@@ -3,7 +3,9 @@
 ghost use mathlib.Core.Path.{_≡_};
 ghost use Prim.Native.Nat.{_+_, _*_, _≤_};
 ghost use lib.ListN.{length};
-ghost use Rattle.area.specs.Log.{rowSize, logRight, rowRecord, rowUptime};
+ghost use Rattle.words.specs.Word.{part};
+ghost use Rattle.area.specs.Place.{PartAt};
+ghost use Rattle.area.specs.Log.{rowSize, rowsOf, logRight, rowRecord, rowUptime};
 use words::word;
 
 pub const ROW: usize = 16;
@@ -13,6 +15,13 @@ const MOST: usize = 16384;
 const RECORD: usize = 0;
 
 const UPTIME: usize = 4;
+
+// How many rows a log of so many bytes has.
+pub fn rows(len: usize) -> usize
+    ensures { λ r. ⌜ r ≡ rowsOf len ⌝ }
+{
+    len / ROW
+}
 
 // Whether a log can have so many bytes.
 pub fn is_log(len: usize) -> bool
@@ -30,6 +39,17 @@ pub fn row_record(log: &[u8], k: usize) -> u32
     ensures { λ r. ⌜ r ≡ rowRecord (now (log .entry)) k ⌝ }
 {
     word::read_u32(log, k * ROW + RECORD)
+}
+
+// Row k, as a part of the log.
+pub fn row<'a>(log: &'a [u8], k: usize) -> &'a [u8]
+    requires { ⌜ k * rowSize + rowSize ≤ length (now log) ⌝ }
+    ensures bytes { λ r. ⌜ now r ≡ part (now (log .entry)) (k * rowSize) rowSize ⌝ }
+    ensures place { λ r. ⌜ PartAt (log .entry) (k * rowSize) r ⌝ }
+{
+    let at = k * ROW;
+    let end = at + ROW;
+    &log[at..end]
 }
 
 // The uptime of row k.

@@ -4,7 +4,8 @@ ghost use mathlib.Core.Path.{_≡_};
 ghost use Prim.Native.Nat.{_+_, _-_, _*_, _≤_};
 ghost use lib.ListN.{length};
 ghost use lib.Seq.{sets};
-ghost use Rattle.words.specs.Word.{numberAt};
+ghost use Rattle.words.specs.Word.{part, numberAt};
+ghost use Rattle.area.specs.Place.{PartAt};
 ghost use Rattle.area.specs.Record.{recordSize, recordWord, withNext, stamped, recordBytes};
 use window::Word;
 use words::run;
@@ -54,6 +55,17 @@ pub fn read(records: &[u8], base: u32, j: usize, offset: usize) -> u32
     ensures { λ r. ⌜ r ≡ recordWord (now (records .entry)) j offset ⌝ }
 {
     read_at(records, base, base + (j * SIZE + offset) as u32)
+}
+
+// Record j, as a part of the record area.
+pub fn whole<'a>(records: &'a [u8], j: usize) -> &'a [u8]
+    requires { ⌜ j * recordSize + recordSize ≤ length (now records) ⌝ }
+    ensures bytes { λ r. ⌜ now r ≡ part (now (records .entry)) (j * recordSize) recordSize ⌝ }
+    ensures place { λ r. ⌜ PartAt (records .entry) (j * recordSize) r ⌝ }
+{
+    let at = j * SIZE;
+    let end = at + SIZE;
+    &records[at..end]
 }
 
 // Writes the next word of record j.

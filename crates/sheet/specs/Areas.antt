@@ -5,6 +5,7 @@ use Prim.Native.Nat.{ℕ, _+_}
 use lib.ListN.{length}
 use denote.Ref.{RefT, now}
 use denote.Triple.Both.{Both}
+pub use Rattle.area.specs.Place.{PartAt}
 use Rattle.words.specs.Word.{part}
 use Rattle.tags.specs.declared.refusal.Refusal.{Refusal}
 use Rattle.sheet.specs.Geometry.{chunkPlace}
@@ -95,7 +96,3 @@ chunkIn g heap i = part heap (chunkPlace g i) (g .chunk)
 
 abbrev pub chunkAt : Image → ℕ → List ℕ
 chunkAt m i = chunkIn (m .sheet) (m .heap) i
-
--- L4, K10 (a part of the area it lies in): a part that starts `at` bytes behind the area's own start; a reference is an allocation and an offset in it
-abbrev pub PartAt : RefT (List ℕ) → ℕ → RefT (List ℕ) → Type 0
-PartAt area at p = (p .ptr .0 ≡ area .ptr .0) × (p .ptr .1 ≡ area .ptr .1 + at)

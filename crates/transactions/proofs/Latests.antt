@@ -7,7 +7,7 @@ use lib.Dec.{eqb, ltb}
 use lib.ListN.{length}
 use Rattle.words.proofs.Tests.{by-test}
 use Rattle.area.specs.Record.{recordSize, stampHigh, stampLow}
-use Rattle.area.specs.Log.{rowSize, logMost}
+use Rattle.area.specs.Log.{rowSize, rowsOf, logMost}
 use Rattle.area.specs.declared.place.Place.{Place}
 use Rattle.area.specs.declared.place.Place.the-variants as place
 use Rattle.tags.specs.declared.refusal.Refusal.the-variants.{Damage}
@@ -36,7 +36,7 @@ LatestIf r l (Refused why) = Unit {0}
 -- what the rows leave of record j
 abbrev chosen : Sheet → List ℕ → List ℕ → ℕ → ℕ → Place
 chosen g records log time j =
-    latestRow log (recordAddress g j) time (firstBest (stampLow records j) time) (length log / rowSize) .row
+    latestRow log (recordAddress g j) time (firstBest (stampLow records j) time) (rowsOf (length log)) .row
 
 owned-if : (g : Sheet) (h : ℕ) (records log : List ℕ) (time j : ℕ) → Open h (length records) g → length log ≤ logMost → j < g .count
     → LatestIf (length records) (length log) (ownedLatest g records log time j)

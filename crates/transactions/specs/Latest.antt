@@ -10,7 +10,7 @@ use Rattle.words.specs.Word.{part}
 use Rattle.words.specs.Age.{ageOf}
 use Rattle.tags.specs.declared.verdict.Verdict.the-variants.{NotOneRecord}
 use Rattle.area.specs.Record.{recordSize, stampHigh, stampLow}
-use Rattle.area.specs.Log.{rowSize, rowRecord, rowUptime}
+use Rattle.area.specs.Log.{rowSize, rowsOf, rowRecord, rowUptime}
 use Rattle.verdicts.specs.Pairing.{ownIn, byOwn}
 use Rattle.sheet.specs.Areas.{Areas, PartAt, openingWithLog, byImage}
 use Rattle.sheet.specs.Geometry.{recordAddress}
@@ -53,7 +53,7 @@ rowOrRecord place.Nowhere j = Record j
 unfoldable pub ownedLatest : Sheet → List ℕ → List ℕ → ℕ → ℕ → Transaction
 ownedLatest g records log time j =
     cond (eqb (stampHigh records j) 0)
-    (rowOrRecord (latestRow log (recordAddress g j) time (firstBest (stampLow records j) time) (length log / rowSize) .row) j)
+    (rowOrRecord (latestRow log (recordAddress g j) time (firstBest (stampLow records j) time) (rowsOf (length log)) .row) j)
     (Refused WideStamp)
 
 -- X4 (index not below n), E7 (X7 with 20)

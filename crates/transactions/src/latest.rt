@@ -81,7 +81,7 @@ fn latest_owned(records: &[u8], log: &[u8], g: Sheet, j: usize, time: u32) -> Tr
         return Transaction::Refused(Refusal::WideStamp);
     }
     let stamp = records::stamp_low(records, g, j);
-    let best = latest_row(log, log.len() / log::ROW, g.record_address(j), stamp, time);
+    let best = latest_row(log, log::rows(log.len()), g.record_address(j), stamp, time);
     let row = best.row;
     match row {
         Place::At(k) => Transaction::Row(k),
@@ -144,15 +144,7 @@ pub fn latest<'a>(
     let found = find_latest(sheet, heap, records, log, index, time);
     match found {
         Transaction::Refused(_) => &log[0..0],
-        Transaction::Row(k) => {
-            let at = k * log::ROW;
-            let end = at + log::ROW;
-            &log[at..end]
-        }
-        Transaction::Record(j) => {
-            let at = j * record::SIZE;
-            let end = at + record::SIZE;
-            &records[at..end]
-        }
+        Transaction::Row(k) => log::row(log, k),
+        Transaction::Record(j) => record::whole(records, j),
     }
 }

@@ -7,16 +7,17 @@ use Rattle.transactions.proofs.latest.latest_owned.Statement.{statement
 use Rattle.transactions.proofs.latest.latest_owned.Tie as tie
 
 -- the high half is 0, so that the rows decide
-decided : (c : tie.After-latest-row) → let a = c .before .before .before .before .before .before .before .args in
+decided : (c : tie.After-latest-row) → let a = c .before .before .before .before .before .before .before .before .args in
     ownedLatest (a .g) (a .records .now) (a .log .now) (a .time) (a .j) ≡ rowOrRecord (c .latest-row .result .row) (a .j)
 unfolding ownedLatest
 decided c =
-    let l = c .before .before in
+    let l = c .before .before .before in
     let h = l .before .before in
     rw (
       ← h .stamp-high .ensures,
       eq-eqb _ _ (l .before .if1 .left),
       ← l .stamp-low .ensures,
+      ← c .before .before .rows .ensures,
       ← c .before .record-address .ensures,
       ← c .latest-row .ensures,
     )
@@ -28,6 +29,6 @@ latest-owned-spec =
     (tie.spec
     (λ c κs. search needs)
     (λ c. rw (← c .before .stamp-high .ensures, ne-eqb _ _ (c .if1 .taken)))
-    (λ c κs. search needs) (λ c κs. search needs) (λ c κs. search needs) (λ c. search needs) (λ c. search needs)
+    (λ c κs. search needs) (λ c κs. search needs) (λ c κs. search needs) (λ c κs. search needs) (λ c. search needs) (λ c. search needs)
     (λ c. rw (decided (c .before .before .before), c .before .row .given .1))
     (λ c. rw (decided (c .before .before), c .enum-told .given .1)))
