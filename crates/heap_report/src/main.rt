@@ -2,15 +2,15 @@
 // It reads no more than decides the answer: a sheet that is refused ends it, and of the log one byte more than is lawful.
 ghost use Prim.Native.Nat.{_≤_};
 ghost use lib.ListN.{length};
-use tags::refusal::Answer;
-use tags::refusal::Refusal;
 use libc::STDIN_FILENO;
 use libc::STDOUT_FILENO;
 use lines::text;
 use lines::text::Written;
+use report::answer;
 use sheet::opening;
 use sheet::opening::Lengths;
-use report::answer;
+use tags::refusal::Answer;
+use tags::refusal::Refusal;
 
 // Writes the first n bytes of a text to standard output.
 fn write_out(text: &[u8], n: usize)

@@ -4,12 +4,12 @@ ghost use lib.ListN.{length};
 ghost use Rattle.tags.specs.Filling.{filling};
 ghost use Rattle.sheet.specs.Areas.{before};
 ghost use Rattle.report.specs.Answer.{reportOf};
-use tags::refusal::Answer;
-use tags::refusal::Refusal;
 use image::inspect;
 use image::inspect::Surveyed;
 use lines::text;
 use lines::text::Written;
+use tags::refusal::Answer;
+use tags::refusal::Refusal;
 
 // Writes the report of an image to the output's start and answers its length.
 pub fn report(sheet: &[u8], heap: &[u8], records: &[u8], log: &[u8], output: &mut [u8]) -> Answer

@@ -3,13 +3,13 @@
 ghost use mathlib.Core.Path.{_≡_};
 ghost use Prim.Native.Nat.{_≤_};
 ghost use lib.ListN.{length};
-use tags::refusal::Answer;
-use tags::refusal::Refusal;
 use libc::STDIN_FILENO;
 use libc::STDOUT_FILENO;
 use lines::text;
 use lines::text::Written;
 use report::answer;
+use tags::refusal::Answer;
+use tags::refusal::Refusal;
 
 // Writes the first n bytes of a text to standard output.
 fn write_out(text: &[u8], n: usize)

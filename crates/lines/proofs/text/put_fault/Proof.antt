@@ -15,7 +15,7 @@ returns c =
     let u = f .before .before .before .before .put-field .ensures in
     let v = l .put-field2 .ensures in
     let w = c .before .before .put-field3 .ensures in
-    simp (sym (f .before .has-offset .ensures) ∙ f .if1 .taken) (then (then (u .0) (v .0)) (w .0), omega (arith, u .1, v .1, w .1))
+    simp (sym (f .before .has-offset .ensures) ∙ f .if1 .taken) (then (then (u .0) (v .0)) (w .0))
 
 returns-2 : tie.Need-returns-2
 unfolding faultLineOf
@@ -23,7 +23,7 @@ returns-2 c =
     let f = c .before .before .before .before .before in
     let v = f .before .before .before .before .put-field .ensures in
     let w = c .before .before .put-field4 .ensures in
-    simp (sym (f .before .has-offset .ensures) ∙ f .if1 .left) (then (v .0) (w .0), omega (arith, v .1, w .1))
+    simp (sym (f .before .has-offset .ensures) ∙ f .if1 .left) (then (v .0) (w .0))
 
 pub put-fault-spec : {M : Type 1} → statement M
 put-fault-spec =

@@ -11,11 +11,9 @@ use Rattle.lines.proofs.text.put_labelled.Tie as tie
 returns : tie.Need-returns
 returns c =
     let p = c .before .before .before .before .before .before .before in
-    let s = p .before .before .before .before in
     let v = p .put in
     let w = c .before .before .put-field .ensures in
-    let e : v .result ≡ s .args .at + length (s .args .word .now) = v .ensures .ends in
-    (then (v .ensures) (w .0), omega (arith, w .1, s .pre .1))
+    then (v .ensures) (w .0)
 
 pub put-labelled-spec : {M : Type 1} → statement M
 put-labelled-spec = tie.close (tie.spec (λ c κs. search needs) (λ c. search needs) (λ c κs. search needs) (λ c. search needs) returns)
