@@ -181,6 +181,10 @@ nothing-put : (m t o : List ℕ) (p : ℕ) → Wrote [] 0 t m p → m ++ o ≡ o
 nothing-put [] t o p w = refl
 nothing-put (x ∷ m) t o p w = let z : suc (length m) ≡ 0 = w .long in absurd (omega arith)
 
+-- where there is room for all of a text, it is written
+pub room-for-all : (t o x : List ℕ) (r : ℕ) → length t ≤ length o → Wrote o 0 t x r → filling (Length r) x ≡ writing t o
+room-for-all t o x r l v = simp (le-leb (length t) (length o) l) (rw (v .ends ∙ zero-add (length t), v .filled (omega (arith, v .ends))))
+
 -- the two ends of a text, of which the first run only counted
 module _ (t o m : List ℕ) (need : ℕ) (w : Wrote [] 0 t m need) where
   pub too-short : length (m ++ o) < need → filling Short (m ++ o) ≡ writing t o
@@ -192,14 +196,15 @@ module _ (t o m : List ℕ) (need : ℕ) (w : Wrote [] 0 t m need) where
   pub long-enough : need ≤ length (m ++ o) → {x : List ℕ} {r : ℕ} → Wrote (m ++ o) 0 t x r → filling (Length r) x ≡ writing t o
   long-enough h {x} {r} v =
       let k = nothing-put m t o need w in
-      let l : length t ≤ length o = omega (arith, ap length k, w .ends) in
-      let e = v .filled (omega (arith, w .ends, v .ends)) ∙ ap (λ (y : List ℕ). sets y 0 t) k in
-      simp (le-leb (length t) (length o) l) (rw (v .ends ∙ zero-add (length t), e))
+      room-for-all t o x r (omega (arith, ap length k, w .ends)) (subst (λ (y : List ℕ). Wrote y 0 t x r) k v)
 
--- a text that was written fits the output
-pub written-fits : (t o : List ℕ) (s : Written) (x : List ℕ) (k : ℕ) → filling s x ≡ writing t o → s ≡ Length k → k ≤ length o
-written-fits t o s x k e f =
-    by-test (λ (y : Filling Written ℕ). filling s x ≡ y → k ≤ length o) (leb (length t) (length o))
-    (λ q g. let h = ap (λ (y : Filling Written ℕ). y .answer) g in let z : length t ≡ k = cc in subst (λ (n : ℕ). n ≤ length o) z (leb-true _ _ q))
+-- a text that was written fits the output, and its length is told
+pub written-known : (t o : List ℕ) (s : Written) (x : List ℕ) (k : ℕ) → filling s x ≡ writing t o → s ≡ Length k → (k ≡ length t) × (k ≤ length o)
+written-known t o s x k e f =
+    by-test (λ (y : Filling Written ℕ). filling s x ≡ y → (k ≡ length t) × (k ≤ length o)) (leb (length t) (length o))
+    (λ q g. let h = ap (λ (y : Filling Written ℕ). y .answer) g in let z : length t ≡ k = cc in (sym z, subst (λ (n : ℕ). n ≤ length o) z (leb-true _ _ q)))
     (λ q g. let h = ap (λ (y : Filling Written ℕ). y .answer) g in absurd (let z : _≡_ {A = ℕ} 0 1 = cc in omega arith))
     e
+
+pub written-fits : (t o : List ℕ) (s : Written) (x : List ℕ) (k : ℕ) → filling s x ≡ writing t o → s ≡ Length k → k ≤ length o
+written-fits t o s x k e f = written-known t o s x k e f .1
