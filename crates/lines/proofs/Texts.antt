@@ -3,11 +3,10 @@ use mathlib.Core.Path.{_≡_, refl, sym, ap, subst, _∙_}
 use mathlib.Core.List.{List, [], _∷_, _++_}
 use Prim.Native.String.{String}
 use Prim.Native.Nat.{ℕ, zero, suc, _+_, _-_, _*_, _/_, _%_, _^_, _≤_, _<_}
-use native.Mathlib.Nat.{not-suc-le-zero, add-zero, zero-add, pow-suc, one-le-pow, pow-le-pow-right, lt-of-not-le}
+use native.Mathlib.Nat.{not-suc-le-zero, add-zero, zero-add, pow-suc, one-le-pow}
 use native.Mathlib.Omega.{arith}
 use borrow.Author.Tests.{lt-ltb, le-ltb, le-leb, lt-leb, leb-true}
 use lib.ListN.{length, length-append}
-use lib.Seq.{sets}
 use Rattle.io.specs.Digits.{glyph, digits, Fewest}
 use Rattle.words.proofs.Parts.{sets-next, flat-nil, flat-suc}
 use Rattle.words.proofs.Sums.{total-zero, total-suc}
@@ -16,8 +15,10 @@ use Rattle.tags.specs.Verdict.{verdictNumber, isFault}
 use Rattle.tags.specs.declared.ending.Ending.{Ending}
 use Rattle.tags.specs.declared.ending.Ending.the-variants.{End, Broken, Again}
 use Rattle.tags.specs.declared.verdict.Verdict.{Verdict}
-use Rattle.tags.specs.declared.verdict.Verdict.the-variants.{Free, Whole, Allocated, NotOneRecord, BadTag, FreedTwice, OffChain, OnChain, BadFill, BadRedzone, BadSizeCode, Overrun}
-use Rattle.lines.specs.Text.{ascii, decimalWith, decimalOf, fieldOf, headerOf, hasOffset, faultLineOf, lineOf, linesOf, chainLineOf, faultOf, faultsIn, faultsOf, textOf, Wrote, writing, mostBuffers, headerMost, lineMost, chainMost, faultsMost, longest}
+use Rattle.tags.specs.declared.verdict.Verdict.the-variants.{Free, Whole, Allocated, NotOneRecord, BadTag, FreedTwice, OffChain, OnChain}
+use Rattle.tags.specs.declared.verdict.Verdict.the-variants.{BadFill, BadRedzone, BadSizeCode, Overrun}
+use Rattle.lines.specs.Text.{ascii, decimalWith, decimalOf, fieldOf, headerOf, hasOffset, faultLineOf, lineOf, linesOf, chainLineOf}
+use Rattle.lines.specs.Text.{faultOf, faultsIn, faultsOf, textOf, Wrote, writing, mostBuffers, lineMost, chainMost, faultsMost, longest}
 use Rattle.lines.specs.declared.text.Written.{Written}
 use Rattle.tags.specs.Filling.{Filling, filling}
 use Rattle.words.proofs.Tests.{by-test}

@@ -1,6 +1,5 @@
 -- The pieces of the line stand one after the other, with an offset or without. Assumes nothing.
 use mathlib.Core.Path.{sym, _∙_}
-use native.Mathlib.Omega.{arith}
 use borrow.Author.Needs.{needs}
 use Rattle.lines.specs.Text.{faultLineOf}
 use Rattle.lines.proofs.Texts.{then}

@@ -1,9 +1,5 @@
 -- The word is put, and the number behind it. Assumes nothing.
-use mathlib.Core.Path.{_≡_}
-use Prim.Native.Nat.{_+_}
-use native.Mathlib.Omega.{arith}
 use borrow.Author.Needs.{needs}
-use lib.ListN.{length}
 use Rattle.lines.proofs.Texts.{then}
 use Rattle.lines.proofs.text.put_labelled.Statement.{statement}
 use Rattle.lines.proofs.text.put_labelled.Tie as tie

@@ -1,5 +1,4 @@
 -- The tests stand in the order of the definition, and the pieces of each line one after the other. Assumes nothing.
-use native.Mathlib.Omega.{arith}
 use borrow.Author.Tests.{eq-eqb, ne-eqb}
 use borrow.Author.Needs.{needs}
 use Rattle.lines.specs.Text.{lineOf}
