@@ -10,14 +10,15 @@ use borrow.Author.Tests.{eq-eqb, ne-eqb}
 use lib.ListN.{length}
 use Rattle.area.specs.Place.{placeAddress, placeOf}
 use Rattle.area.specs.Record.{recordSize, nextWord}
-use Rattle.verdicts.specs.Chain.{occ, Chain, stop, meets, ChainRule, chainFrom, chainOf, chainAfter}
-use Rattle.verdicts.specs.Walk.{mark, marksOf, ofPlace, endingAt, wordValues, Gives}
+use Rattle.verdicts.specs.Chain.{occ, Chain, stop, meets, ChainRule, chainFrom, chainAfter, chainIn}
+use Rattle.verdicts.specs.Walk.{toOne, areaOf, ofPlace, endingAt, wordValues, Gives}
+use Rattle.sheet.specs.declared.geometry.Sheet.{Sheet}
 use Rattle.area.specs.declared.place.Place.{Place}
 use Rattle.area.specs.declared.place.Place.the-variants.{At, Nowhere}
 use Rattle.tags.specs.declared.ending.Ending.{Ending}
 use Rattle.tags.specs.declared.ending.Ending.the-variants.{End, Broken, Again}
 use Rattle.area.proofs.Places.{place-at, place-found}
-use Rattle.verdicts.proofs.Marks.{occ-none, occ-cons, occ-here, occ-apart, mark-most, marks-mid, left, left-most, left-fewer}
+use Rattle.verdicts.proofs.MetRecords.{occ-none, occ-cons, occ-here, occ-apart, one-most, area-mid, left, left-most, left-fewer}
 
 -- ---- the rule
 
@@ -103,30 +104,26 @@ unfoldable pub Linked : (ℕ → ℕ) → ℕ → ℕ → ℕ → List ℕ → T
 Linked next base n w [] = w ≡ 0
 Linked next base n w (i ∷ l) = (i < n) × ((w ≡ placeAddress base recordSize i) × Linked next base n (next i) l)
 
--- ---- the chain of an image
+-- ---- the chain from a word
 
 below-more : (n i : ℕ) (l : List ℕ) → i < n → ((j : ℕ) → occ j l ≢ 0 → j < n) → (j : ℕ) → occ j (i ∷ l) ≢ 0 → Dec (j ≡ i) → j < n
 below-more n i l b r j h (yes e) = omega arith
 below-more n i l b r j h (no d) = r j (λ z. h (occ-apart j i l d ∙ z))
 
-once-more : (seen : List ℕ) (i : ℕ) (l : List ℕ) → occ i seen ≡ 0 → (j : ℕ) → mark (occ j (i ∷ seen)) + occ j l ≤ 1 → Dec (j ≡ i)
-    → mark (occ j seen) + occ j (i ∷ l) ≤ 1
+once-more : (seen : List ℕ) (i : ℕ) (l : List ℕ) → occ i seen ≡ 0 → (j : ℕ) → toOne (occ j (i ∷ seen)) + occ j l ≤ 1 → Dec (j ≡ i)
+    → toOne (occ j seen) + occ j (i ∷ l) ≤ 1
 once-more seen i l m j h (yes e) =
-    let a : mark (occ j (i ∷ seen)) ≡ 1 = ap (λ (k : ℕ). mark (occ k (i ∷ seen))) e ∙ ap mark (occ-here i seen) in
-    let b : mark (occ j seen) ≡ 0 = ap (λ (k : ℕ). mark (occ k seen)) e ∙ ap mark m in
+    let a : toOne (occ j (i ∷ seen)) ≡ 1 = ap (λ (k : ℕ). toOne (occ k (i ∷ seen))) e ∙ ap toOne (occ-here i seen) in
+    let b : toOne (occ j seen) ≡ 0 = ap (λ (k : ℕ). toOne (occ k seen)) e ∙ ap toOne m in
     let c : occ j (i ∷ l) ≡ suc (occ j l) = ap (λ (k : ℕ). occ j (k ∷ l)) (sym e) ∙ occ-here j l in
     omega arith
 once-more seen i l m j h (no d) =
-    let a : mark (occ j (i ∷ seen)) ≡ mark (occ j seen) = ap mark (occ-apart j i seen d) in
+    let a : toOne (occ j (i ∷ seen)) ≡ toOne (occ j seen) = ap toOne (occ-apart j i seen d) in
     omega (arith, occ-apart j i l d)
 
 module _ (records : List ℕ) (base n : ℕ) where
   within : (w i : ℕ) → placeOf base recordSize n w ≡ At i → i < n
   within w i e = place-found base recordSize n w i e .0
-
-  pub chain-whole : (head : ℕ) → chainOf records base n head ≡ chainAfter records base n [] head
-  unfolding chainOf
-  chain-whole head = refl
 
   -- The rule, with no bound on the steps.
   module _ (seen : List ℕ) (w : ℕ) where
@@ -172,48 +169,6 @@ module _ (records : List ℕ) (base n : ℕ) where
         goes-on = λ seen w i c z e m. one seen i (c .met) (within w i e) m;
       })
 
-  module _ (head : ℕ) where
-    -- every record met is one of the n
-    pub chain-below : (j : ℕ) → occ j (chainOf records base n head .met) ≢ 0 → j < n
-    chain-below = rw chain-whole
-        (met-by (λ seen l. (j : ℕ) → occ j l ≢ 0 → j < n)
-        (λ seen j h. absurd (h (occ-none j)))
-        (λ seen i l b m r j h. below-more n i l b r j h (ℕ-discrete j i))
-        [] head)
-
-    -- and is met once
-    pub chain-once : (j : ℕ) → occ j (chainOf records base n head .met) ≤ 1
-    chain-once j = rw chain-whole
-        (let h = met-by (λ seen l. (j : ℕ) → mark (occ j seen) + occ j l ≤ 1)
-        (λ seen j. omega (arith, occ-none j, mark-most (occ j seen)))
-        (λ seen i l b m r j. once-more seen i l m j (r j) (ℕ-discrete j i))
-        [] head j in omega arith)
-
-    -- so no more are met than there are
-    pub chain-short : length (chainOf records base n head .met) ≤ n
-    chain-short = rw chain-whole
-        (let h = met-by (λ seen l. length l ≤ left n seen)
-        (λ seen. omega arith)
-        (λ seen i l b m r. omega (arith, left-fewer n i seen b m))
-        [] head in omega (arith, left-most n []))
-
-    -- the record that a chain comes to again is one that it met
-    pub chain-met-again : (i : ℕ) → chainOf records base n head .ending ≡ Again i → occ i (chainOf records base n head .met) ≡ 1
-    chain-met-again i e = let h = met-again i e in omega (arith, chain-once i)
-      where
-        met-again : (i : ℕ) → chainOf records base n head .ending ≡ Again i → occ i (chainOf records base n head .met) ≢ 0
-        met-again = rw chain-whole
-            (λ i e h. chain-by (λ seen w c. (i : ℕ) → c .ending ≡ Again i → occ i seen + occ i (c .met) ≢ 0)
-            (record {
-              ends = λ seen w z i e. absurd (let z : _≡_ {A = ℕ} 0 1 = cc in omega arith);
-              breaks = λ seen w z e i q. absurd (let z : _≡_ {A = ℕ} 0 1 = cc in omega arith);
-              repeats = λ seen w i z e m j q h. let s : i ≡ j = cc in m (ap (λ (k : ℕ). occ k seen) s ∙ omega arith);
-              goes-on = λ seen w i c z e m r j q h. r j q (omega (arith, occ-cons j i seen, occ-cons j i (c .met)));
-            }) [] head i e (omega (arith, occ-none i)))
-
-    pub chain-again-below : (i : ℕ) → chainOf records base n head .ending ≡ Again i → i < n
-    chain-again-below i e = chain-below i (let h = chain-met-again i e in omega arith)
-
   -- the chain from a word, with those records met already, is that of the rule
   pub chain-rule : ChainRule (nextWord records) (placeOf base recordSize n) (chainAfter records base n)
   chain-rule = record {
@@ -234,10 +189,60 @@ module _ (records : List ℕ) (base n : ℕ) where
       chain-meets seen w i z (place-at base recordSize n w i (omega arith) (r .0) (r .1 .0)) (omega (arith, occ-here i l))
       ∙ ap (meets i) (linked-after b l (i ∷ seen) (nextWord records i) (r .1 .1) (λ j. let o = d j in omega (arith, occ-cons j i seen, occ-cons j i l)))
 
+-- ---- the chain of a sheet's records
+
+pub chain-whole : (g : Sheet) (records : List ℕ) → chainIn g records ≡ chainAfter records (g .«record_base») (g .count) [] (g .head)
+unfolding chainIn
+chain-whole g records = refl
+
+module _ (g : Sheet) (records : List ℕ) where
+  -- every record met is one of the n
+  pub chain-below : (j : ℕ) → occ j (chainIn g records .met) ≢ 0 → j < g .count
+  chain-below = rw (chain-whole g records)
+      (met-by records (g .«record_base») (g .count) (λ seen l. (j : ℕ) → occ j l ≢ 0 → j < g .count)
+      (λ seen j h. absurd (h (occ-none j)))
+      (λ seen i l b m r j h. below-more (g .count) i l b r j h (ℕ-discrete j i))
+      [] (g .head))
+
+  -- and is met once
+  pub chain-once : (j : ℕ) → occ j (chainIn g records .met) ≤ 1
+  chain-once j = rw (chain-whole g records)
+      (let h = met-by records (g .«record_base») (g .count) (λ seen l. (j : ℕ) → toOne (occ j seen) + occ j l ≤ 1)
+      (λ seen j. omega (arith, occ-none j, one-most (occ j seen)))
+      (λ seen i l b m r j. once-more seen i l m j (r j) (ℕ-discrete j i))
+      [] (g .head) j in omega arith)
+
+  -- so no more are met than there are
+  pub chain-short : length (chainIn g records .met) ≤ g .count
+  chain-short = rw (chain-whole g records)
+      (let h = met-by records (g .«record_base») (g .count) (λ seen l. length l ≤ left (g .count) seen)
+      (λ seen. omega arith)
+      (λ seen i l b m r. omega (arith, left-fewer (g .count) i seen b m))
+      [] (g .head) in omega (arith, left-most (g .count) []))
+
+  -- the record that a chain comes to again is one that it met
+  pub chain-met-again : (i : ℕ) → chainIn g records .ending ≡ Again i → occ i (chainIn g records .met) ≡ 1
+  chain-met-again i e = let h = met-again i e in omega (arith, chain-once i)
+    where
+      met-again : (i : ℕ) → chainIn g records .ending ≡ Again i → occ i (chainIn g records .met) ≢ 0
+      met-again = rw (chain-whole g records)
+          (λ i e h. chain-by records (g .«record_base») (g .count) (λ seen w c. (i : ℕ) → c .ending ≡ Again i → occ i seen + occ i (c .met) ≢ 0)
+          (record {
+            ends = λ seen w z i e. absurd (let z : _≡_ {A = ℕ} 0 1 = cc in omega arith);
+            breaks = λ seen w z e i q. absurd (let z : _≡_ {A = ℕ} 0 1 = cc in omega arith);
+            repeats = λ seen w i z e m j q h. let s : i ≡ j = cc in m (ap (λ (k : ℕ). occ k seen) s ∙ omega arith);
+            goes-on = λ seen w i c z e m r j q h. r j q (omega (arith, occ-cons j i seen, occ-cons j i (c .met)));
+          }) [] (g .head) i e (omega (arith, occ-none i)))
+
+  pub chain-again-below : (i : ℕ) → chainIn g records .ending ≡ Again i → i < g .count
+  chain-again-below i e = chain-below i (let h = chain-met-again i e in omega arith)
+
   -- a list of records, none of them twice, that are linked from the head down to 0 is the chain
-  pub linked-chain : base ≢ 0 → (head : ℕ) (l : List ℕ) → Linked (nextWord records) base n head l → ((i : ℕ) → occ i l ≤ 1)
-      → chainOf records base n head ≡ record { met = l; ending = End }
-  linked-chain b head l r d = chain-whole head ∙ linked-after b l [] head r (λ i. let o = d i in omega (arith, occ-none i))
+  pub linked-chain : g .«record_base» ≢ 0 → (l : List ℕ) → Linked (nextWord records) (g .«record_base») (g .count) (g .head) l → ((i : ℕ) → occ i l ≤ 1)
+      → chainIn g records ≡ record { met = l; ending = End }
+  linked-chain b l r d =
+      chain-whole g records
+      ∙ linked-after records (g .«record_base») (g .count) b l [] (g .head) r (λ i. let o = d i in omega (arith, occ-none i))
 
 -- the links of a list are the same where the next words of its records are
 pub linked-same : (f g : ℕ → ℕ) (base n w : ℕ) (l : List ℕ) → ((j : ℕ) → occ j l ≢ 0 → f j ≡ g j) → Linked f base n w l → Linked g base n w l
@@ -264,24 +269,27 @@ module _ (base n w : ℕ) where
   ending-place p z e = simp (ne-eqb w 0 z, e)
 
 -- a walk that stops at once
-pub gives-stop : (c : Chain) (e : Ending) (seen : List ℕ) (base n before w r : ℕ) (exit : List ℕ) → c ≡ stop e → r ≡ before * wordValues + w → w < 2 ^ 32
-    → endingAt base n w ≡ e → exit ≡ marksOf 512 seen → Gives c seen base n before r exit
-gives-stop c e seen base n before w r exit q ri l t h =
+pub gives-stop : (c : Chain) (e : Ending) (rest : ℕ → ℕ) (seen : List ℕ) (base n before w r : ℕ) (exit : List ℕ)
+    → c ≡ stop e → r ≡ before * wordValues + w → w < 2 ^ 32 → endingAt base n w ≡ e → exit ≡ areaOf n rest seen
+    → Gives c rest seen base n before r exit
+gives-stop c e rest seen base n before w r exit q ri l t h =
     let d : r / wordValues ≡ before + 0 = omega arith in
     let m : r % wordValues ≡ w = omega arith in
     rw q (record { met = d; ending = ap (endingAt base n) m ∙ t; marked = h })
 
 -- a walk that meets record i, and goes on
-pub gives-meets : (c d : Chain) (i : ℕ) (seen : List ℕ) (base n before r : ℕ) (exit : List ℕ) → c ≡ meets i d
-    → Gives d (i ∷ seen) base n (before + 1) r exit → Gives c seen base n before r exit
-gives-meets c d i seen base n before r exit q g =
-    rw q (record { met = g .met ∙ omega arith; ending = g .ending; marked = g .marked ∙ marks-mid 512 i (d .met) seen })
+pub gives-meets : (c d : Chain) (i : ℕ) (rest : ℕ → ℕ) (seen : List ℕ) (base n before r : ℕ) (exit : List ℕ) → c ≡ meets i d
+    → Gives d rest (i ∷ seen) base n (before + 1) r exit → Gives c rest seen base n before r exit
+gives-meets c d i rest seen base n before r exit q g =
+    rw q (record { met = g .met ∙ omega arith; ending = g .ending; marked = g .marked ∙ area-mid n rest i (d .met) seen })
 
 -- a walk of the whole chain
-pub gives-all : (records : List ℕ) (base n head r : ℕ) (exit : List ℕ) → Gives (chainAfter records base n [] head) [] base n 0 r exit →
-    let c = chainOf records base n head in
-    (r / wordValues ≡ length (c .met)) × ((endingAt base n (r % wordValues) ≡ c .ending) × (exit ≡ marksOf 512 (c .met)))
-gives-all records base n head r exit g =
-    let c = chainOf records base n head in
-    let h = rw (sym (chain-whole records base n head)) at g in
-    (h .met ∙ zero-add (length (c .met)), (h .ending, h .marked ∙ ap (marksOf 512) (append-nil (c .met))))
+pub gives-all : (g : Sheet) (records : List ℕ) (rest : ℕ → ℕ) (r : ℕ) (exit : List ℕ)
+    → Gives (chainAfter records (g .«record_base») (g .count) [] (g .head)) rest [] (g .«record_base») (g .count) 0 r exit →
+    let c = chainIn g records in
+    (r / wordValues ≡ length (c .met))
+    × ((endingAt (g .«record_base») (g .count) (r % wordValues) ≡ c .ending) × (exit ≡ areaOf (g .count) rest (c .met)))
+gives-all g records rest r exit w =
+    let c = chainIn g records in
+    let h = rw (sym (chain-whole g records)) at w in
+    (h .met ∙ zero-add (length (c .met)), (h .ending, h .marked ∙ ap (areaOf (g .count) rest) (append-nil (c .met))))

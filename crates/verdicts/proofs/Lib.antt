@@ -1,3 +1,5 @@
-pub mod Marks
+pub mod MetRecords
 pub mod Chains
-pub mod Pairs
+pub mod Lends
+pub mod Counts
+pub mod Owns

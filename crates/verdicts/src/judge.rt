@@ -1,59 +1,56 @@
-// The verdict on a buffer: the first rule that holds, given its own record and the chain.
+// The verdict on a buffer: the first rule that holds, by the marks and by the buffer's tag.
 ghost use mathlib.Core.Path.{_≡_};
 ghost use Prim.Native.Nat.{_<_};
 ghost use lib.ListN.{length};
 ghost use Rattle.chunks.specs.Chunk.{ChunkLength};
-ghost use Rattle.sheet.specs.Limits.{Lawful};
-ghost use Rattle.sheet.specs.Geometry.{heapLength};
-ghost use Rattle.verdicts.specs.Judge.{ownedVerdict, chainedVerdict, againAt, judged, marked};
-ghost use Rattle.verdicts.specs.Pairing.{OwnIf};
-use tags::ending::Ending;
-use crate::pairing::Own;
-use area::record;
+ghost use Rattle.sheet.specs.Opening.{Open};
+ghost use Rattle.sheet.specs.Areas.{imageIn};
+ghost use Rattle.verdicts.specs.Chain.{chainIn};
+ghost use Rattle.verdicts.specs.Marks.{marksIn};
+ghost use Rattle.verdicts.specs.Judge.{chainedVerdict, againAt, verdictOf};
+use crate::marks;
+use area::place::Place;
 use chunks::chunk;
 use chunks::judge;
+use places::heap;
+use places::records;
 use sheet::geometry::Sheet;
+use tags::ending::Ending;
 use tags::tag::Pattern;
 use tags::verdict::Verdict;
 
+// What the chain says of a buffer's own record: whether it is met, and whether the chain is "again" at it.
+pub struct Standing {
+    pub met: bool,
+    pub again: bool,
+}
+
 // The rules from 22 on, for a pattern that was read.
-fn judge_chained(chunk: &[u8], pattern: Pattern, met: bool, again: bool) -> Verdict
+fn judge_chained(chunk: &[u8], pattern: Pattern, s: Standing) -> Verdict
     requires { ⌜ ChunkLength (length (now chunk)) ⌝ }
-    ensures { λ r. ⌜ r ≡ chainedVerdict (now (chunk .entry)) pattern met again ⌝ }
+    ensures { λ r. ⌜ r ≡ chainedVerdict (now (chunk .entry)) pattern s ⌝ }
 {
     match pattern {
         Pattern::Neither => Verdict::BadTag,
         Pattern::Free => {
-            if again {
+            if s.again {
                 return Verdict::FreedTwice;
             }
-            if met {
+            if s.met {
                 return judge::judge_free(chunk);
             }
             Verdict::OffChain
         }
         Pattern::Allocated => {
-            if again {
+            if s.again {
                 return Verdict::FreedTwice;
             }
-            if met {
+            if s.met {
                 return Verdict::OnChain;
             }
             judge::judge_allocated(chunk)
         }
     }
-}
-
-// The rules from 21 on, for a buffer whose own record is at an address.
-fn judge_owned(chunk: &[u8], record_at: u32, met: bool, again: bool) -> Verdict
-    requires { ⌜ ChunkLength (length (now chunk)) ⌝ }
-    ensures { λ r. ⌜ r ≡ ownedVerdict (now (chunk .entry)) «record_at» met again ⌝ }
-{
-    let tag = chunk::read_tag(chunk);
-    if tag.t0 != record_at {
-        return Verdict::BadTag;
-    }
-    judge_chained(chunk, tag.pattern(), met, again)
 }
 
 // Whether the chain is "again" at record j.
@@ -67,33 +64,39 @@ fn again_at(ending: Ending, j: usize) -> bool
     }
 }
 
-// The verdict on buffer i, whose own record is given, with the marks of the records that the chain met and its ending.
+// The verdict on buffer i, by the marks and the chain's ending. Where one record alone names the buffer, T0 is its own record's
+// address exactly when it is the address of a record that names the buffer.
 pub fn judge_buffer(
     heap: &[u8],
+    records: &[u8],
     g: Sheet,
     i: usize,
-    own: Own,
-    marks: &[u8; 512],
+    marks: &[u8],
     ending: Ending,
 ) -> Verdict
-    requires { ⌜ Lawful g ⌝ }
-    requires { ⌜ length (now heap) ≡ heapLength g ⌝ }
+    requires { ⌜ Open (length (now heap)) (length (now records)) g ⌝ }
     requires { ⌜ i < g .count ⌝ }
-    requires { ⌜ OwnIf (g .count) own ⌝ }
-    ensures { λ r. ⌜ r ≡ judged (now (heap .entry)) g i own (marked (now (marks .entry))) ending ⌝ }
+    requires { ⌜ now marks ≡ marksIn g (now records) ⌝ }
+    requires { ⌜ ending ≡ chainIn g (now records) .ending ⌝ }
+    ensures { λ r. ⌜ r ≡ verdictOf (imageIn g (heap .entry) (records .entry)) i ⌝ }
 {
-    match own {
-        Own::NotOne => Verdict::NotOneRecord,
-        Own::One(j) => {
-            let at = i * g.chunk;
-            let end = at + g.chunk;
-            let record_at = g.record_base + (j * record::SIZE) as u32;
-            judge_owned(
-                &heap[at..end],
-                record_at,
-                marks[j] != 0,
-                again_at(ending, j),
-            )
+    if marks::names(marks[i]) != 1 {
+        return Verdict::NotOneRecord;
+    }
+    let chunk = heap::chunk(heap, g, i);
+    let tag = chunk::read_tag(chunk);
+    let p = g.find_record(tag.t0);
+    match p {
+        Place::Nowhere => Verdict::BadTag,
+        Place::At(j) => {
+            if records::buffer(records, g, j) != g.buffer_address(i) {
+                return Verdict::BadTag;
+            }
+            let s = Standing {
+                met: marks::is_met(marks[j]),
+                again: again_at(ending, j),
+            };
+            judge_chained(chunk, tag.pattern(), s)
         }
     }
 }

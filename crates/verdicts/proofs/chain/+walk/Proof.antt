@@ -1,6 +1,6 @@
 -- The walk is the chain's rule, step by step: a record not met yet is marked, so one fewer is left, and the rest is the chain from its next word.
 -- Assumes nothing.
-use mathlib.Core.Path.{_≡_, sym, ap, _∙_}
+use mathlib.Core.Path.{_≡_, refl, sym, ap, _∙_}
 use mathlib.Core.List.{List, _∷_}
 use Prim.Native.Nat.{ℕ, suc, _+_, _<_}
 use native.Mathlib.Omega.{arith}
@@ -16,7 +16,7 @@ use Rattle.area.specs.declared.place.Place.the-variants.{At, Nowhere}
 use Rattle.tags.specs.declared.ending.Ending.the-variants.{End, Broken, Again}
 use Rattle.area.proofs.Places.{place-found}
 use Rattle.area.proofs.Records.{record-at}
-use Rattle.verdicts.proofs.Marks.{is-met, not-met, marks-set, unmet-set}
+use Rattle.verdicts.proofs.MetRecords.{is-met, not-met, area-meets, unmet-set}
 use Rattle.verdicts.proofs.Chains.{chain-end, chain-broken, chain-again, chain-meets, ending-end, ending-place, gives-stop, gives-meets}
 use Rattle.verdicts.proofs.chain.+walk.{statement}
 use Rattle.verdicts.proofs.chain.+walk.Tie.{close}
@@ -25,17 +25,18 @@ use Rattle.verdicts.proofs.chain.walk.Kinds as walk-kinds
 use Rattle.verdicts.proofs.chain.+walk.Lts-walk as walk-lts
 use Rattle.verdicts.proofs.chain.pack.Reads as pack-reads
 use Rattle.area.proofs.place.find.Reads as find-reads
+use Rattle.verdicts.proofs.chain.with_met.Reads as with-met-reads
 use Rattle.area.proofs.record.read_at.Reads as read-at-reads
 use denote.Ref.{now}
 
-abbrev μ-walk : Measures 3 walk-kinds.ps ℕ
-μ-walk κs a = unmet (a .1 .1 .1 .1 .0 .now)
+abbrev μ-walk : Measures 4 walk-kinds.ps ℕ
+μ-walk κs a = unmet (now (a .1 .1 .1 .1 .1 .0 .now))
 
-abbrev walk-at : ℕ → In 3 walk-kinds.ps
-walk-at t = and 3 walk-kinds.ps (is 3 walk-kinds.ps μ-walk t) walk.Pre
+abbrev walk-at : ℕ → In 4 walk-kinds.ps
+walk-at t = and 4 walk-kinds.ps (is 4 walk-kinds.ps μ-walk t) walk.Pre
 
-abbrev walk-below : ℕ → In 3 walk-kinds.ps
-walk-below t = and 3 walk-kinds.ps (falls 3 walk-kinds.ps _<_ μ-walk t) walk.Pre
+abbrev walk-below : ℕ → In 4 walk-kinds.ps
+walk-below t = and 4 walk-kinds.ps (falls 4 walk-kinds.ps _<_ μ-walk t) walk.Pre
 
 -- what is known of each function that it calls
 abbrev callees : ℕ → walk-lts.Claims
@@ -44,46 +45,51 @@ callees t = (
   pack-reads.Learnt,
   find-reads.Asked,
   find-reads.Learnt,
+  with-met-reads.Asked,
+  with-met-reads.Learnt,
   read-at-reads.Asked,
   read-at-reads.Learnt,
   walk-below t,
   walk.Post,
 )
 
+-- places of the length that is passed are those of the records
+at-size : {t : ℕ} (s : walk-lts.Start (callees t) (walk-at t) walk.Post) →
+    let a = s .args in placeOf (a .base) recordSize (a .n) (a .word) ≡ placeOf (a .base) (a .size) (a .n) (a .word)
+at-size s = let a = s .args in ap (λ (size : ℕ). placeOf (a .base) size (a .n) (a .word)) (sym (s .pre .1 .stride))
+
 -- where the word is found to be a record's address
 abbrev At-p : ℕ → Type 0
 At-p t = walk-lts.After-p (callees t) (walk-at t) walk.Post
-
--- and where that record is not met yet
-abbrev Fresh : ℕ → Type 0
-Fresh t = walk-lts.Else2 (callees t) (walk-at t) walk.Post
 
 module _ (t : ℕ) (c : At-p t) where
   abbrev index : ℕ
   index = c .p .given .0 .0
 
   is-at : let a = c .before .before .before .before .args in placeOf (a .base) recordSize (a .n) (a .word) ≡ At index
-  is-at = sym (c .before .before .find .ensures) ∙ c .p .given .1
+  is-at = at-size (c .before .before .before .before) ∙ sym (c .before .before .find .ensures) ∙ c .p .given .1
 
   found : let a = c .before .before .before .before .args in (index < a .n) × (a .word ≡ placeAddress (a .base) recordSize index)
   found = let a = c .before .before .before .before .args in place-found (a .base) recordSize (a .n) (a .word) index is-at
 
-  inside : index < c .before .before .before .before .args .n
-  inside = found .0
+  in-marks : index < length (now (c .before .before .before .before .args .marks .now))
+  in-marks = let h = found .0 in omega arith
 
-  in-array : index < 512
-  in-array = let h = inside in omega arith
+-- and where it is met now: one record fewer is left
+abbrev Met : ℕ → Type 0
+Met t = walk-lts.After-with-met (callees t) (walk-at t) walk.Post
 
-  in-marks : index < length (c .before .before .before .before .args .marks .now)
-  in-marks = let h = inside in omega arith
+module _ (t : ℕ) (c : Met t) where
+  abbrev entry : List ℕ
+  entry = now (c .before .before .before .before .before .before .before .before .before .args .marks .now)
 
--- one record fewer is left
-fewer : (t : ℕ) (c : Fresh t) →
-    let m = c .before .before .before .before .before .before .before .args .marks .now in
-    unmet m ≡ suc (unmet (set m (index t (c .before .before .before)) 1))
-fewer t c =
-    let m = c .before .before .before .before .before .before .before .args .marks .now in
-    unmet-set m (index t (c .before .before .before)) (in-marks t (c .before .before .before)) (c .if2 .left)
+  abbrev place : ℕ
+  place = index t (c .before .before .before .before .before)
+
+  fewer : unmet entry ≡ suc (unmet (set entry place (c .with-met .result)))
+  fewer =
+      unmet-set entry place (in-marks t (c .before .before .before .before .before)) (c .before .before .if2 .left)
+      ∙ ap (λ (b : ℕ). suc (unmet (set entry place b))) (sym (c .with-met .ensures))
 
 walk-pack-requires : (t : ℕ) → walk-lts.Need-pack-requires (callees t) (walk-at t) walk.Post
 walk-pack-requires t c κs = omega arith
@@ -91,9 +97,13 @@ walk-pack-requires t c κs = omega arith
 walk-returns : (t : ℕ) → walk-lts.Need-returns (callees t) (walk-at t) walk.Post
 walk-returns t c =
     let s = c .before .before in
-    let a = s .args in λ seen h.
-    gives-stop _ End seen (a .base) (a .n) (a .met) (a .word) _ _ (chain-end _ _ _ seen _ (c .before .if1 .taken)) (c .pack .ensures) (s .fits .word .fits)
-    (ending-end (a .base) (a .n) (a .word) (c .before .if1 .taken)) h
+    let a = s .args in
+    let z = c .before .if1 .taken in (
+      λ rest seen h.
+          gives-stop _ End rest seen (a .base) (a .n) (a .met) (a .word) _ _ (chain-end _ _ _ seen _ z) (c .pack .ensures) (s .fits .word .fits)
+          (ending-end (a .base) (a .n) (a .word) z) h,
+      (refl, refl),
+    )
 
 walk-find-requires : (t : ℕ) → walk-lts.Need-find-requires (callees t) (walk-at t) walk.Post
 walk-find-requires t c κs = search needs
@@ -107,8 +117,8 @@ walk-pack-requires-2 t c κs = omega arith
 walk-enum-known-p : (t : ℕ) → walk-lts.Need-enum-known-p (callees t) (walk-at t) walk.Post
 walk-enum-known-p t c = search needs
 
-walk-element-copy-out-if2 : (t : ℕ) → walk-lts.Need-element-copy-out-if2 (callees t) (walk-at t) walk.Post
-walk-element-copy-out-if2 t c = in-array t (c .before)
+walk-index-1-if2 : (t : ℕ) → walk-lts.Need-index-1-if2 (callees t) (walk-at t) walk.Post
+walk-index-1-if2 t c = in-marks t (c .before)
 
 walk-pack-requires-3 : (t : ℕ) → walk-lts.Need-pack-requires-3 (callees t) (walk-at t) walk.Post
 walk-pack-requires-3 t c κs = omega arith
@@ -119,14 +129,22 @@ walk-returns-2 t c =
     let s = p .before .before .before .before in
     let a = s .args in
     let i = index t p in
-    let z = p .before .before .before .if1 .left in λ seen h.
-    gives-stop _ (Again i) seen (a .base) (a .n) (a .met) (a .word) _ _
-    (chain-again _ _ _ seen _ i z (is-at t p) (is-met 512 seen (a .marks .now) i h (in-array t p) (c .before .if2 .taken)))
-    (c .pack3 .ensures) (s .fits .word .fits)
-    (ending-place (a .base) (a .n) (a .word) (At i) z (is-at t p)) h
+    let z = p .before .before .before .if1 .left in (
+      λ rest seen h.
+          gives-stop _ (Again i) rest seen (a .base) (a .n) (a .met) (a .word) _ _
+          (chain-again _ _ _ seen _ i z (is-at t p) (is-met (a .n) rest seen (now (a .marks .now)) i h (found t p .0) (c .before .if2 .taken)))
+          (c .pack3 .ensures) (s .fits .word .fits) (ending-place (a .base) (a .n) (a .word) (At i) z (is-at t p)) h,
+      (refl, refl),
+    )
 
-walk-element-write-marks : (t : ℕ) → walk-lts.Need-element-write-marks (callees t) (walk-at t) walk.Post
-walk-element-write-marks t c = in-array t (c .before .before .before)
+walk-index-1-with-met : (t : ℕ) → walk-lts.Need-index-1-with-met (callees t) (walk-at t) walk.Post
+walk-index-1-with-met t c = in-marks t (c .before .before .before)
+
+walk-with-met-requires : (t : ℕ) → walk-lts.Need-with-met-requires (callees t) (walk-at t) walk.Post
+walk-with-met-requires t c κs = search needs
+
+walk-index-1-marks : (t : ℕ) → walk-lts.Need-index-1-marks (callees t) (walk-at t) walk.Post
+walk-index-1-marks t c = in-marks t (c .before .before .before .before .before)
 
 walk-cast-read-at : (t : ℕ) → walk-lts.Need-cast-read-at (callees t) (walk-at t) walk.Post
 walk-cast-read-at t c = search needs
@@ -135,44 +153,56 @@ walk-add-read-at : (t : ℕ) → walk-lts.Need-add-read-at (callees t) (walk-at 
 walk-add-read-at t c = search needs
 
 walk-read-at-requires : (t : ℕ) → walk-lts.Need-read-at-requires (callees t) (walk-at t) walk.Post
-walk-read-at-requires t c κs = let h = found t (c .before .before .before .before) in (omega arith, omega arith)
+walk-read-at-requires t c κs = let h = found t (c .before .before .before .before .before .before) in (omega arith, omega arith)
 
 walk-add-walk : (t : ℕ) → walk-lts.Need-add-walk (callees t) (walk-at t) walk.Post
-walk-add-walk t c = let h = fewer t (c .before .before .before) in omega arith
+walk-add-walk t c = omega arith
 
 walk-walk-requires : (t : ℕ) → walk-lts.Need-walk-requires (callees t) (walk-at t) walk.Post
 walk-walk-requires t c κs =
-    let f = c .before .before .before in
-    let i = index t (f .before .before .before) in
-    let s = f .before .before .before .before .before .before .before in
-    let m = s .args .marks .now in
-    let h = fewer t f in
-    (omega arith, (s .pre .1 .0, (s .pre .1 .1 .0, (s .pre .1 .1 .1 .0, (length-set m i 1 ∙ s .pre .1 .1 .1 .1 .0, omega arith)))))
+    let m = c .before .before .before in
+    let s = m .before .before .before .before .before .before .before .before .before in
+    let h = fewer t m in (
+      omega arith,
+      record {
+        stride = s .pre .1 .stride;
+        room = s .pre .1 .room;
+        most = s .pre .1 .most;
+        long = length-set (entry t m) (place t m) _ ∙ s .pre .1 .long;
+        left = omega arith;
+      },
+    )
 
 walk-returns-3 : (t : ℕ) → walk-lts.Need-returns-3 (callees t) (walk-at t) walk.Post
 walk-returns-3 t c =
     let s = c .before .before .before .before .before in
     let a = s .args in
     let z = c .before .before .before .before .if1 .left in
-    let e = sym (c .before .before .before .find .ensures) ∙ c .before .enum-told .given .1 in λ seen h.
-    gives-stop _ Broken seen (a .base) (a .n) (a .met) (a .word) _ _ (chain-broken _ _ _ seen _ z e) (c .pack2 .ensures) (s .fits .word .fits)
-    (ending-place (a .base) (a .n) (a .word) Nowhere z e) h
+    let e = at-size s ∙ sym (c .before .before .before .find .ensures) ∙ c .before .enum-told .given .1 in (
+      λ rest seen h.
+          gives-stop _ Broken rest seen (a .base) (a .n) (a .met) (a .word) _ _ (chain-broken _ _ _ seen _ z e) (c .pack2 .ensures) (s .fits .word .fits)
+          (ending-place (a .base) (a .n) (a .word) Nowhere z e) h,
+      (refl, refl),
+    )
 
 walk-returns-4 : (t : ℕ) → walk-lts.Need-returns-4 (callees t) (walk-at t) walk.Post
 walk-returns-4 t c =
-    let f = c .before .before .before .before in
-    let p = f .before .before .before in
+    let m = c .before .before .before .before in
+    let p = m .before .before .before .before .before in
     let i = index t p in
     let s = p .before .before .before .before in
     let a = s .args in
-    let m = a .marks .now in
+    let even = m .before .before .if2 .left in
     let from = chainAfter (now (a .records .now)) (a .base) (a .n) in
-    λ seen h.
-    let read = c .before .before .read-at in
-    gives-meets _ (from (i ∷ seen) (read .result)) i seen (a .base) (a .n) (a .met) _ _
-    (chain-meets _ _ _ seen (a .word) i (p .before .before .before .if1 .left) (is-at t p) (not-met 512 seen m i h (in-array t p) (f .if2 .left))
-    ∙ ap (λ (w : ℕ). meets i (from (i ∷ seen) w)) (sym (read .ensures ∙ record-at _ (a .base) _ i nextAt (ap (λ (w : ℕ). w + nextAt) (found t p .1)))))
-    (c .walk .ensures (i ∷ seen) (ap (λ (l : List ℕ). set l i 1) h ∙ marks-set 512 i seen (in-array t p)))
+    let read = c .before .before .read-at .ensures ∙ record-at _ (a .base) _ i nextAt (ap (λ (w : ℕ). w + nextAt) (found t p .1)) in (
+      λ rest seen h.
+          gives-meets _ (from (i ∷ seen) (c .before .before .read-at .result)) i rest seen (a .base) (a .n) (a .met) _ _
+          (chain-meets _ _ _ seen (a .word) i (p .before .before .before .if1 .left) (is-at t p) (not-met (a .n) rest seen (entry t m) i h (found t p .0) even)
+          ∙ ap (λ (w : ℕ). meets i (from (i ∷ seen) w)) (sym read))
+          (c .walk .ensures .0 rest (i ∷ seen)
+          (ap (set (entry t m) i) (m .with-met .ensures) ∙ area-meets (a .n) rest seen (entry t m) i h (found t p .0) even)),
+      (c .walk .ensures .1 .0, c .walk .ensures .1 .1 ∙ length-set (entry t m) i _),
+    )
 
 pub +walk-spec : {M : Type 1} → statement M
 +walk-spec = close μ-walk λ t. walk-lts.spec (callees t)
@@ -184,10 +214,12 @@ pub +walk-spec : {M : Type 1} → statement M
     (walk-enum-told t)
     (walk-pack-requires-2 t)
     (walk-enum-known-p t)
-    (walk-element-copy-out-if2 t)
+    (walk-index-1-if2 t)
     (walk-pack-requires-3 t)
     (walk-returns-2 t)
-    (walk-element-write-marks t)
+    (walk-index-1-with-met t)
+    (walk-with-met-requires t)
+    (walk-index-1-marks t)
     (walk-cast-read-at t)
     (walk-add-read-at t)
     (walk-read-at-requires t)

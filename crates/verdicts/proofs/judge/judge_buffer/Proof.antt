@@ -1,76 +1,138 @@
--- The chunk and the record's address are those of the places; the rules from 21 on do the rest. Assumes nothing.
-use mathlib.Core.Path.{subst}
-use Prim.Native.Nat.{ℕ, _+_, _*_, _≤_, _<_}
+-- The digit says whether one record alone names the buffer; then that record is the one at T0, or the tag is bad. Assumes nothing.
+use mathlib.Core.Path.{_≡_, sym, ap, subst, _∙_}
+use Prim.Native.Nat.{ℕ, _<_}
 use native.Mathlib.Omega.{arith}
 use borrow.Author.Needs.{needs}
-use Rattle.verdicts.specs.Pairing.{OwnIf}
-use Rattle.verdicts.specs.Judge.{judged}
-use Rattle.words.proofs.Parts.{part-lent}
-use Rattle.chunks.specs.Chunk.{ChunkLength}
-use Rattle.sheet.specs.Geometry.{heapLength}
-use Rattle.sheet.specs.declared.geometry.Sheet.{Sheet}
-use Rattle.sheet.proofs.Sheets.{chunk-inside, chunk-small, record-small, record-word, chunk-length}
+use lib.ListN.{length, getD}
+use Rattle.words.proofs.Parts.{length-part}
+use Rattle.area.specs.Record.{recordSize, addressWord}
+use Rattle.area.proofs.Places.{place-found, place-missed, address-one}
+use Rattle.chunks.specs.Chunk.{ChunkLength, tagAt}
+use Rattle.tags.specs.Tag.{patternOf}
+use Rattle.tags.specs.declared.tag.Tag.{Tag}
+use Rattle.tags.specs.declared.ending.Ending.{Ending}
+use Rattle.sheet.specs.Geometry.{chunkPlace, recordAddress}
+use Rattle.sheet.specs.Areas.{Image, image, chunkIn, chunkAt}
+use Rattle.sheet.proofs.Sheets.{chunk-inside, chunk-length}
+use Rattle.verdicts.specs.Marks.{namesDigit, namesAfter}
+use Rattle.verdicts.specs.Judge.{chainedVerdict, standing, againAt}
+use Rattle.verdicts.proofs.Counts.{length-marks, marks-names, marks-met}
+use Rattle.verdicts.proofs.Owns.{verdict-none, verdict-other, verdict-one}
 use Rattle.verdicts.proofs.judge.judge_buffer.Statement.{statement}
 use Rattle.verdicts.proofs.judge.judge_buffer.Tie as tie
 
--- what is known of buffer i and of its own record
-record Known (g : Sheet) (i j : ℕ) : Type 0 where
-  own : j < g .count
-  chunks : i * g .chunk + g .chunk ≤ heapLength g
-  small : i * g .chunk + g .chunk ≤ 65536
-  little : j * 96 + 96 ≤ 49152
-  fits : g .«record_base» + j * 96 + 96 ≤ 4294967296
-  long : ChunkLength (g .chunk)
+-- the image that is judged, and what is known of it from the start
+module _ (s : tie.Start) where
+  abbrev judging : Image
+  judging = image (s .args .g) (s .args .heap .now) (s .args .records .now)
 
-known : (c : tie.After-own) → Known (c .before .before .before .args .g) (c .before .before .before .args .i) (c .own .given .0 .0)
-known c =
-    let s = c .before .before .before in
-    let g = s .args .g in
-    let i = s .args .i in
-    let law = s .pre .0 in
-    let hi = s .pre .1 .1 .0 in
-    let hj : c .own .given .0 .0 < g .count = subst (OwnIf (g .count)) (c .own .given .1) (s .pre .1 .1 .1) in
-    record {
-      own = hj;
-      chunks = chunk-inside g law i hi;
-      small = chunk-small g law i hi;
-      little = record-small g law (c .own .given .0 .0) hj;
-      fits = record-word g law (c .own .given .0 .0) hj;
-      long = chunk-length g law;
-    }
+  long : length (s .args .marks .now) ≡ s .args .g .count
+  long = length-marks (s .args .g) (s .args .records .now) (s .args .marks .now) (s .pre .1 .1 .0)
 
-mul-at : tie.Need-mul-at
-mul-at c = let k = known (c .before .before) in omega arith
+  digit : namesDigit (getD (s .args .marks .now) (s .args .i) 0) ≡ namesAfter (s .args .g) (s .args .records .now) (s .args .g .count) (s .args .i)
+  digit = marks-names (s .args .g) (s .args .records .now) (s .args .marks .now) (s .pre .1 .1 .0) (s .args .i) (s .pre .1 .0)
 
-add-end : tie.Need-add-end
-add-end c = let k = known (c .before .before .before) in omega arith
+  chunk-lawful : ChunkLength (length (chunkAt judging (s .args .i)))
+  chunk-lawful =
+      let g = s .args .g in
+      let o = s .pre .0 in
+      let k = chunk-inside g (o .law) (s .args .i) (s .pre .1 .0) in
+      subst ChunkLength (sym (length-part (s .args .heap .now) (chunkPlace g (s .args .i)) (g .chunk) (omega (arith, o .heapLong)))) (chunk-length g (o .law))
 
-mul-record-at : tie.Need-mul-record-at
-mul-record-at c = let k = known (c .before .before .before) in omega arith
+-- the tag that is read is the chunk's
+tag-read : (c : tie.After-read-tag) →
+    let s = c .before .before .before .before .before .before .before .before in
+    c .read-tag .result ≡ tagAt (chunkAt (judging s) (s .args .i))
+tag-read c = c .read-tag .ensures ∙ ap tagAt (c .before .chunk .ensures)
 
-cast-record-at : tie.Need-cast-record-at
-cast-record-at c = let k = known (c .before .before .before) in omega arith
+-- one record alone names the buffer
+one-names : (c : tie.After-read-tag) →
+    let s = c .before .before .before .before .before .before .before .before in
+    namesAfter (s .args .g) (s .args .records .now) (s .args .g .count) (s .args .i) ≡ 1
+one-names c =
+    let s = c .before .before .before .before .before .before .before .before in
+    sym (c .before .before .before .names .ensures ∙ digit s) ∙ c .before .before .if1 .left
 
-add-record-at : tie.Need-add-record-at
-add-record-at c = let k = known (c .before .before .before .before) in omega arith
+-- where T0 is the address of record `index`
+module _ (c : tie.After-p) where
+  abbrev index : ℕ
+  index = c .p .given .0 .0
 
-part-judge-owned-end : tie.Need-part-judge-owned-end
-part-judge-owned-end c = let k = known (c .before .before .before .before) in omega arith
+  abbrev start : tie.Start
+  start = c .before .before .before .before .before .before .before .before .before .before .before
 
-element-copy-out-judge-owned : tie.Need-element-copy-out-judge-owned
-element-copy-out-judge-owned c = let k = known (c .before .before .before .before .before) in omega arith
+  found : (index < start .args .g .count) × (tagAt (chunkAt (judging start) (start .args .i)) .t0 ≡ recordAddress (start .args .g) index)
+  found =
+      let g = start .args .g in
+      let f = place-found (g .«record_base») recordSize (g .count) _ index (sym (c .before .before .find-record .ensures) ∙ c .p .given .1) in
+      (f .0, sym (ap (λ (t : Tag). t .t0) (tag-read (c .before .before .before))) ∙ f .1)
 
+returns : tie.Need-returns
+returns c =
+    let s = c .before .before .before .before .before .before in
+    sym (verdict-none (judging s) (s .args .i) (λ e. c .if1 .taken (c .before .names .ensures ∙ digit s ∙ e)))
+
+read-tag-requires : tie.Need-read-tag-requires
+read-tag-requires c κs = rw (c .chunk .ensures) (chunk-lawful (c .before .before .before .before .before .before .before))
+
+buffer-requires : tie.Need-buffer-requires
+buffer-requires c κs =
+    let p = c .before in
+    let o = start p .pre .0 in
+    (o .law, (o .recordsLong, found p .0))
+
+-- the record at T0 names another buffer
 returns-2 : tie.Need-returns-2
-unfolding judged
 returns-2 c =
-    let o = c .before .before .before .before .before .before .before .before in
-    rw (o .own .given .1, ← c .before .again-at .ensures, ← part-lent) (c .judge-owned .ensures)
+    let p = c .before .before .before .before in
+    let s = start p in
+    let r = s .args .records .now in
+    sym
+    (verdict-other (judging s) (s .args .i) (one-names (p .before .before .before))
+    (λ j l w e.
+    let same = address-one (s .args .g .«record_base») recordSize (index p) j (omega arith) (sym (found p .1) ∙ e) in
+    c .if2 .taken (c .before .before .buffer .ensures ∙ ap (addressWord r) same ∙ w ∙ sym (c .before .buffer-address .ensures))))
+
+-- T0 is no record's address
+returns-3 : tie.Need-returns-3
+returns-3 c =
+    let f = c .before .before in
+    let s = f .before .before .before .before .before .before .before .before .before in
+    let g = s .args .g in
+    sym
+    (verdict-other (judging s) (s .args .i) (one-names (f .before))
+    (λ j l w e. place-missed (g .«record_base») recordSize (g .count) _ (omega arith) (sym (f .find-record .ensures) ∙ c .enum-told .given .1) j l
+    (ap (λ (t : Tag). t .t0) (tag-read (f .before)) ∙ e)))
+
+judge-chained-requires : tie.Need-judge-chained-requires
+judge-chained-requires c κs =
+    let p = c .before .before .before .before .before .before .before .before in
+    rw (p .before .before .before .before .chunk .ensures) (chunk-lawful (start p))
+
+returns-4 : tie.Need-returns-4
+returns-4 c =
+    let p = c .before .before .before .before .before .before .before .before .before in
+    let s = start p in
+    let g = s .args .g in
+    let r = s .args .records .now in
+    let k = p .before .before .before in
+    let at = c .before .before .before .before .before in
+    let whole = k .before .chunk .ensures in
+    let pattern = c .before .pattern .ensures ∙ ap patternOf (tag-read k) in
+    let met = c .before .before .before .is-met .ensures ∙ marks-met g r (s .args .marks .now) (s .pre .1 .1 .0) (index p) (found p .0) in
+    let again = c .before .before .again-at .ensures ∙ ap (λ (e : Ending). againAt e (index p)) (s .pre .1 .1 .1) in
+    c .judge-chained .ensures
+    ∙ (λ x. chainedVerdict (whole x) (pattern x) (standing (met x) (again x)))
+    ∙ sym
+    (verdict-one (judging s) (s .args .i) (index p) (one-names k) (found p .0)
+    (sym (at .before .before .buffer .ensures) ∙ at .if2 .left ∙ at .before .buffer-address .ensures) (found p .1))
 
 pub judge-buffer-spec : {M : Type 1} → statement M
-unfolding judged
 judge-buffer-spec =
     tie.close
     (tie.spec
-    (λ c. search needs) (λ c. search needs) mul-at add-end mul-record-at cast-record-at add-record-at (λ c. search needs)
-    (λ c. search needs) part-judge-owned-end element-copy-out-judge-owned (λ c κs. search needs) (λ c κs. search needs)
-    (λ c. rw (c .enum-told .given .1)) returns-2)
+    (λ c. let l = long (c .before .before .before .before) in omega (arith, c .before .before .before .before .pre .1 .0))
+    (λ c κs. search needs) returns (λ c κs. search needs) read-tag-requires (λ c κs. search needs) (λ c. search needs) (λ c. search needs) buffer-requires
+    (λ c κs. search needs) returns-2
+    (λ c. let p = c .before .before .before .before .before in let l = long (start p) in omega (arith, found p .0))
+    (λ c κs. search needs) (λ c κs. search needs) (λ c κs. search needs) judge-chained-requires returns-3 returns-4)

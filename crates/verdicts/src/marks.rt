@@ -1,0 +1,85 @@
+// The marks: one lent byte for each of n places, of two digits. The lowest says whether the chain meets the record, the one above
+// it how many records name the buffer: none, one, or more.
+ghost use mathlib.Core.Path.{_≡_};
+ghost use mathlib.Core.List.{[]};
+ghost use Prim.Native.Nat.{_<_};
+ghost use lib.ListN.{length, replicate};
+ghost use Rattle.sheet.specs.Geometry.{recordsLength};
+ghost use Rattle.sheet.specs.Limits.{Lawful};
+ghost use Rattle.verdicts.specs.Chain.{chainIn};
+ghost use Rattle.verdicts.specs.Walk.{areaOf};
+ghost use Rattle.verdicts.specs.Marks.{namesAfter, marksIn, metDigit, namesDigit, withName};
+use crate::chain;
+use crate::chain::Walked;
+use area::place::Place;
+use places::records;
+use sheet::geometry::Sheet;
+
+// Whether the chain meets the record of a byte.
+pub(crate) fn is_met(b: u8) -> bool
+    ensures { λ r. ⌜ r ≡ metDigit b ⌝ }
+{
+    b % 2 != 0
+}
+
+// How many records name the buffer of a byte: 0, 1, or 2 for more.
+pub(crate) fn names(b: u8) -> u8
+    ensures { λ r. ⌜ r ≡ namesDigit b ⌝ }
+{
+    b / 2 % 3
+}
+
+// The byte with one record more that names the buffer.
+fn with_name(b: u8) -> u8
+    requires { ⌜ b < 6 ⌝ }
+    ensures { λ r. ⌜ r ≡ withName b ⌝ }
+{
+    if names(b) == 2 { b } else { b + 2 }
+}
+
+// Clears the marks, whatever they were.
+fn clear(marks: &mut [u8])
+    ensures { λ _. ⌜ now (marks .exit) ≡ replicate (length (now (marks .entry))) 0 ⌝ }
+{
+    let mut i = 0;
+    while i < marks.len() {
+        marks[i] = 0;
+        i += 1;
+    }
+}
+
+// Counts the records that name each buffer.
+fn count_names(records: &[u8], g: Sheet, marks: &mut [u8])
+    requires { ⌜ Lawful g ⌝ }
+    requires { ⌜ length (now records) ≡ recordsLength g ⌝ }
+    requires { ⌜ now marks ≡ replicate (g .count) 0 ⌝ }
+    ensures { λ _. ⌜ now (marks .exit)
+        ≡ areaOf (g .count) (namesAfter g (now (records .entry)) (g .count)) [] ⌝ }
+{
+    let n = g.count;
+    let mut j = 0;
+    while j < n {
+        let p = g.find_buffer(records::buffer(records, g, j));
+        match p {
+            Place::At(i) => {
+                marks[i] = with_name(marks[i]);
+            }
+            Place::Nowhere => {}
+        }
+        j += 1;
+    }
+}
+
+// Marks an image's records and buffers, whatever the marks were, and tells how many records the chain met and how it ends.
+pub fn mark(records: &[u8], g: Sheet, marks: &mut [u8]) -> Walked
+    requires { ⌜ Lawful g ⌝ }
+    requires { ⌜ length (now records) ≡ recordsLength g ⌝ }
+    requires { ⌜ length (now marks) ≡ g .count ⌝ }
+    ensures met { λ r. ⌜ r .met ≡ length (chainIn g (now (records .entry)) .met) ⌝ }
+    ensures ending { λ r. ⌜ r .ending ≡ chainIn g (now (records .entry)) .ending ⌝ }
+    ensures marks { λ _. ⌜ now (marks .exit) ≡ marksIn g (now (records .entry)) ⌝ }
+{
+    clear(marks);
+    count_names(records, g, marks);
+    chain::walk_from(records, g, marks)
+}
