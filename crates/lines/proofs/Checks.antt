@@ -3,35 +3,40 @@ use mathlib.Core.Path.{_≡_, refl}
 use mathlib.Core.List.{List, [], _∷_}
 use Prim.Native.Nat.{ℕ}
 use Prim.Native.String.{String}
-use lib.ListN.{length}
+use lib.ListN.{length, getD}
 use Rattle.tags.specs.declared.ending.Ending.{Ending}
 use Rattle.tags.specs.declared.ending.Ending.the-variants.{End, Broken, Again}
+use Rattle.tags.specs.Verdict.{verdictNumber, verdictValue}
+use Rattle.tags.specs.declared.verdict.Verdict.{Verdict}
+use Rattle.tags.specs.declared.verdict.Verdict.the-variants.{Free, Whole, Allocated, NotOneRecord, BadTag, FreedTwice, OffChain, OnChain}
+use Rattle.tags.specs.declared.verdict.Verdict.the-variants.{BadFill, BadRedzone, BadSizeCode, Overrun}
 use Rattle.words.specs.Word.{flat}
 use Rattle.words.specs.Sum.{total}
-use Rattle.lines.specs.Text.{ascii, decimalWith, hasOffset, lineOf, faultLineOf, chainLineOf, textOf, rowNumber, rowValue}
+use Rattle.lines.specs.Text.{ascii, decimalWith, hasOffset, lineOf, faultLineOf, chainLineOf, textOf}
 
--- the report of n buffers, three numbers for each, is this text of so many bytes
-abbrev Says : List ℕ → ℕ → ℕ → Ending → String → ℕ → Type 0
-Says rows n met ending text size =
-    (textOf (rowNumber rows) (rowValue rows) n met ending ≡ ascii text) × (length (ascii text) ≡ size)
+-- the report of buffers with these verdicts is this text of so many bytes
+abbrev Says : List Verdict → ℕ → Ending → String → ℕ → Type 0
+Says vs met ending text size =
+    (textOf (λ i. verdictNumber (getD vs i Free)) (λ i. verdictValue (getD vs i Free)) (length vs) met ending ≡ ascii text)
+    × (length (ascii text) ≡ size)
 
 -- "Whole report, 64 bytes"
 pub dump-case :
-    Says (0 ∷ 0 ∷ 0 ∷ 1 ∷ 2 ∷ 20 ∷ 2 ∷ 0 ∷ 0 ∷ []) 3 2 End
+    Says (Free ∷ Allocated 20 ∷ Free ∷ []) 2 End
     "heap report 1\n0 free\n1 allocated 20\n2 free\nchain 2 end\nfaults 0\n" 64
 unfolding decimalWith hasOffset lineOf faultLineOf flat chainLineOf total textOf
 dump-case = (refl, refl)
 
 -- the faults that have an offset
 pub offset-case :
-    Says (0 ∷ 25 ∷ 9 ∷ 1 ∷ 26 ∷ 4103 ∷ 2 ∷ 28 ∷ 0 ∷ 3 ∷ 1 ∷ 0 ∷ []) 4 0 Broken
+    Says (BadFill 9 ∷ BadRedzone 4103 ∷ Overrun 0 ∷ Whole ∷ []) 0 Broken
     "heap report 1\n0 fault 25 9\n1 fault 26 4103\n2 fault 28 0\n3 whole\nchain 0 broken\nfaults 3\n" 88
 unfolding decimalWith hasOffset lineOf faultLineOf flat chainLineOf total textOf
 offset-case = (refl, refl)
 
 -- the faults that have none
 pub fault-case :
-    Says (0 ∷ 20 ∷ 0 ∷ 1 ∷ 21 ∷ 0 ∷ 2 ∷ 22 ∷ 0 ∷ 3 ∷ 23 ∷ 0 ∷ 4 ∷ 24 ∷ 0 ∷ 5 ∷ 27 ∷ 0 ∷ []) 6 10 (Again 2)
+    Says (NotOneRecord ∷ BadTag ∷ FreedTwice ∷ OffChain ∷ OnChain ∷ BadSizeCode ∷ []) 10 (Again 2)
     "heap report 1\n0 fault 20\n1 fault 21\n2 fault 22\n3 fault 23\n4 fault 24\n5 fault 27\nchain 10 again 2\nfaults 6\n" 106
 unfolding decimalWith hasOffset lineOf faultLineOf flat chainLineOf total textOf
 fault-case = (refl, refl)

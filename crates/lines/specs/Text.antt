@@ -6,7 +6,7 @@ use Prim.Native.Char.{code}
 use Prim.Native.Nat.{ℕ, zero, suc, _+_, _*_, _/_, _%_, _≤_}
 use Prim.Native.String.{String, [] as none, _∷_ as _then_}
 use lib.Dec.{eqb, ltb}
-use lib.ListN.{length, getD}
+use lib.ListN.{length}
 use lib.Seq.{sets}
 use denote.Ref.{RefT, now}
 use denote.Triple.Both.{Both}
@@ -97,18 +97,32 @@ refusalLineOf number = labelled (ascii "refused ") number
 unfoldable pub textOf : (ℕ → ℕ) → (ℕ → ℕ) → ℕ → ℕ → Ending → List ℕ
 textOf number value n met ending = headerOf ++ linesOf number value n ++ chainLineOf met ending ++ faultsOf (faultsIn number n)
 
--- where verdicts stand three numbers to a buffer, index, number and value: the number and the value of buffer i
-abbrev pub rowNumber : List ℕ → ℕ → ℕ
-rowNumber rows i = getD rows (3 * i + 1) 0
+-- ---- how long it can be: of at most 100,000 buffers an index has up to 5 digits and a count up to 6, the number of a verdict 2 and its value 10
 
-abbrev pub rowValue : List ℕ → ℕ → ℕ
-rowValue rows i = getD rows (3 * i + 2) 0
+abbrev pub mostBuffers : ℕ
+mostBuffers = 100000
+
+-- G4 (`heap report 1`)
+abbrev pub headerMost : ℕ
+headerMost = 14
+
+-- G5 (the longest is `I allocated S`)
+abbrev pub lineMost : ℕ
+lineMost = 27
+
+-- G6 (the longest is `chain K again R`)
+abbrev pub chainMost : ℕ
+chainMost = 25
+
+-- G7 (`faults F`)
+abbrev pub faultsMost : ℕ
+faultsMost = 14
+
+-- G3 (a line for each buffer, and three more): no report of n buffers is longer
+abbrev pub longest : ℕ → ℕ
+longest n = headerMost + n * lineMost + chainMost + faultsMost
 
 -- ---- the output
-
--- the text of such rows, of n buffers and of a chain
-abbrev pub rowsText : List ℕ → ℕ → ℕ → Ending → List ℕ
-rowsText rows n met ending = textOf (rowNumber rows) (rowValue rows) n met ending
 
 -- the text, which ends at `next`, was put into `entry` from `at` on, if the output goes so far
 pub record Wrote (entry : List ℕ) (at : ℕ) (text exit : List ℕ) (next : ℕ) : Type 0 where
@@ -123,8 +137,3 @@ Put output at text next = Wrote (now (output .entry)) at text (now (output .exit
 -- G8, X11 (all or nothing): the length of the text where there is room for it, at the output's start; output past it stays
 abbrev pub writing : List ℕ → List ℕ → Filling Written ℕ
 writing text output = ifRoom (length text) output (filling (Length (length text)) (sets output 0 text)) Short
-
--- what is known of a text that was written: it is not long
-abbrev pub WrittenIf : Written → Type 0
-WrittenIf (Length k) = k ≤ 65535
-WrittenIf Short = Unit {0}

@@ -1,16 +1,30 @@
-// The report's text, written into an output that the caller lends. One writer is run twice: into an empty output it only
-// counts, and then, where there is room for all of the text, it writes.
+// The pieces of a report's text, each put into an output that the caller lends, behind the piece before it. The same writer
+// counts, into an empty output, and writes, where there is room for all of the text.
 ghost use mathlib.Core.Path.{_≡_};
 ghost use mathlib.Core.List.{_++_};
-ghost use Prim.Native.Nat.{_+_, _*_, _^_, _≤_, _<_};
+ghost use Prim.Native.Nat.{_+_, _^_, _≤_, _<_};
 ghost use lib.ListN.{length};
-ghost use Rattle.lines.specs.Text.{decimalOf, headerOf, hasOffset, faultLineOf, lineOf, chainLineOf, faultOf, faultsOf, labelled, rowsText, Put, writing, WrittenIf, refusalLineOf};
+ghost use Rattle.lines.specs.Text.{decimalOf, headerOf, hasOffset, faultLineOf, lineOf, chainLineOf, faultOf, faultsOf, labelled};
+ghost use Rattle.lines.specs.Text.{Put, writing, refusalLineOf, mostBuffers, headerMost, lineMost, chainMost, faultsMost, longest};
 ghost use Rattle.tags.specs.Filling.{filling};
 ghost use Rattle.tags.specs.Refusal.{refusalNumber};
+ghost use Rattle.tags.specs.Verdict.{verdictNumber, verdictValue};
+ghost use Rattle.tags.specs.Ending.{endingValue};
 use tags::ending::Ending;
 use tags::refusal;
 use tags::refusal::Refusal;
+use tags::verdict;
+use tags::verdict::Verdict;
 use words::run;
+
+// No piece of a report of at most 100,000 buffers is longer: the header, the line of a buffer, the chain line, the last line.
+const HEADER: usize = 14;
+
+const LINE: usize = 27;
+
+const CHAIN: usize = 25;
+
+const FAULTS: usize = 14;
 
 // How long the text is, where the output has room for it.
 pub enum Written {
@@ -54,10 +68,18 @@ fn put_field(output: &mut [u8], at: usize, n: u64, word: &[u8]) -> usize
     put(output, a, word)
 }
 
+// No report of n buffers is longer.
+pub fn longest(n: usize) -> usize
+    requires { ⌜ n ≤ mostBuffers ⌝ }
+    ensures { λ r. ⌜ r ≡ longest n ⌝ }
+{
+    HEADER + n * LINE + CHAIN + FAULTS
+}
+
 // Puts the first line.
-fn put_header(output: &mut [u8]) -> usize
+pub fn put_header(output: &mut [u8]) -> usize
     ensures put { λ r. ⌜ Put output 0 headerOf r ⌝ }
-    ensures short { λ r. ⌜ r ≤ 14 ⌝ }
+    ensures short { λ r. ⌜ r ≤ headerMost ⌝ }
 {
     put(output, 0, b"heap report 1\n")
 }
@@ -72,8 +94,7 @@ fn has_offset(number: u32) -> bool
 // Puts the line of buffer i, which has a fault, by the number and the value of its verdict.
 fn put_fault(output: &mut [u8], at: usize, i: usize, number: u32, value: u32) -> usize
     requires { ⌜ at < 2 ^ 61 ⌝ }
-    ensures put { λ r. ⌜ Put output at (faultLineOf i number value) r ⌝ }
-    ensures short { λ r. ⌜ r ≤ at + 120 ⌝ }
+    ensures { λ r. ⌜ Put output at (faultLineOf i number value) r ⌝ }
 {
     let a = put_field(output, at, i as u64, b" fault ");
     if has_offset(number) {
@@ -84,10 +105,9 @@ fn put_fault(output: &mut [u8], at: usize, i: usize, number: u32, value: u32) ->
 }
 
 // Puts the line of buffer i, by the number and the value of its verdict.
-fn put_line(output: &mut [u8], at: usize, i: usize, number: u32, value: u32) -> usize
+fn put_verdict(output: &mut [u8], at: usize, i: usize, number: u32, value: u32) -> usize
     requires { ⌜ at < 2 ^ 61 ⌝ }
-    ensures put { λ r. ⌜ Put output at (lineOf i number value) r ⌝ }
-    ensures short { λ r. ⌜ r ≤ at + 120 ⌝ }
+    ensures { λ r. ⌜ Put output at (lineOf i number value) r ⌝ }
 {
     if number == 0 {
         return put_field(output, at, i as u64, b" free\n");
@@ -102,11 +122,23 @@ fn put_line(output: &mut [u8], at: usize, i: usize, number: u32, value: u32) -> 
     put_fault(output, at, i, number, value)
 }
 
-// Puts the chain line.
-fn put_chain(output: &mut [u8], at: usize, met: usize, ending: Ending) -> usize
+// Puts the line of buffer i by its verdict.
+pub fn put_line(output: &mut [u8], at: usize, i: usize, v: Verdict) -> usize
     requires { ⌜ at < 2 ^ 61 ⌝ }
+    requires { ⌜ i < mostBuffers ⌝ }
+    ensures put { λ r. ⌜ Put output at (lineOf i (verdictNumber v) (verdictValue v)) r ⌝ }
+    ensures short { λ r. ⌜ r ≤ at + lineMost ⌝ }
+{
+    put_verdict(output, at, i, verdict::number(v), verdict::value(v))
+}
+
+// Puts the chain line.
+pub fn put_chain(output: &mut [u8], at: usize, met: usize, ending: Ending) -> usize
+    requires { ⌜ at < 2 ^ 61 ⌝ }
+    requires { ⌜ met ≤ mostBuffers ⌝ }
+    requires { ⌜ endingValue ending < mostBuffers ⌝ }
     ensures put { λ r. ⌜ Put output at (chainLineOf met ending) r ⌝ }
-    ensures short { λ r. ⌜ r ≤ at + 120 ⌝ }
+    ensures short { λ r. ⌜ r ≤ at + chainMost ⌝ }
 {
     let a = put(output, at, b"chain ");
     match ending {
@@ -123,77 +155,33 @@ fn put_chain(output: &mut [u8], at: usize, met: usize, ending: Ending) -> usize
 fn put_labelled(output: &mut [u8], at: usize, word: &[u8], n: u64) -> usize
     requires { ⌜ at < 2 ^ 61 ⌝ }
     requires { ⌜ length (now word) ≤ 20 ⌝ }
-    ensures put { λ r. ⌜ Put output at (labelled (now (word .entry)) n) r ⌝ }
-    ensures short { λ r. ⌜ r ≤ at + 60 ⌝ }
+    ensures { λ r. ⌜ Put output at (labelled (now (word .entry)) n) r ⌝ }
 {
     let a = put(output, at, word);
     put_field(output, a, n, b"\n")
 }
 
 // Puts the last line.
-fn put_faults(output: &mut [u8], at: usize, faults: usize) -> usize
+pub fn put_faults(output: &mut [u8], at: usize, faults: usize) -> usize
     requires { ⌜ at < 2 ^ 61 ⌝ }
+    requires { ⌜ faults ≤ mostBuffers ⌝ }
     ensures put { λ r. ⌜ Put output at (faultsOf faults) r ⌝ }
-    ensures short { λ r. ⌜ r ≤ at + 60 ⌝ }
+    ensures short { λ r. ⌜ r ≤ at + faultsMost ⌝ }
 {
     put_labelled(output, at, b"faults ", faults as u64)
 }
 
 // 1 for a verdict whose line is a fault line, else 0.
-fn fault(number: u32) -> usize
-    ensures is { λ r. ⌜ r ≡ faultOf number ⌝ }
+pub fn fault(v: Verdict) -> usize
+    ensures is { λ r. ⌜ r ≡ faultOf (verdictNumber v) ⌝ }
     ensures small { λ r. ⌜ r ≤ 1 ⌝ }
 {
-    if number < 20 { 0 } else { 1 }
-}
-
-// Puts the whole report of n buffers, as far as the output goes, and answers how long it is. Three numbers of `rows` stand
-// for each buffer, in the buffers' order: its index, which is not read, the number of its verdict, and the size or the
-// offset, 0 for a verdict that carries none.
-fn put_report(output: &mut [u8], rows: &[u32], n: usize, met: usize, ending: Ending) -> usize
-    requires { ⌜ n ≤ 512 ⌝ }
-    requires { ⌜ 3 * n ≤ length (now rows) ⌝ }
-    ensures put { λ r. ⌜ Put output 0 (rowsText (now (rows .entry)) n met ending) r ⌝ }
-    ensures short { λ r. ⌜ r ≤ 65535 ⌝ }
-{
-    let mut at = put_header(output);
-    let mut faults = 0;
-    let mut i = 0;
-    while i < n {
-        let number = rows[3 * i + 1];
-        at = put_line(output, at, i, number, rows[3 * i + 2]);
-        faults += fault(number);
-        i += 1;
-    }
-    at = put_chain(output, at, met, ending);
-    put_faults(output, at, faults)
-}
-
-// Writes the whole report to the output's start and answers its length; or nothing, where the output is too short.
-pub fn write_report(
-    rows: &[u32],
-    n: usize,
-    met: usize,
-    ending: Ending,
-    output: &mut [u8],
-) -> Written
-    requires { ⌜ n ≤ 512 ⌝ }
-    requires { ⌜ 3 * n ≤ length (now rows) ⌝ }
-    ensures { λ r. ⌜ filling r (now (output .exit))
-        ≡ writing (rowsText (now (rows .entry)) n met ending) (now (output .entry)) ⌝ }
-    ensures { λ r. ⌜ WrittenIf r ⌝ }
-{
-    let need = put_report(&mut output[..0], rows, n, met, ending);
-    if output.len() < need {
-        return Written::Short;
-    }
-    Written::Length(put_report(output, rows, n, met, ending))
+    if verdict::number(v) < 20 { 0 } else { 1 }
 }
 
 // Puts the line of a refusal.
 fn put_refusal(output: &mut [u8], number: u32) -> usize
-    ensures put { λ r. ⌜ Put output 0 (refusalLineOf number) r ⌝ }
-    ensures short { λ r. ⌜ r ≤ 60 ⌝ }
+    ensures { λ r. ⌜ Put output 0 (refusalLineOf number) r ⌝ }
 {
     put_labelled(output, 0, b"refused ", number as u64)
 }

@@ -1,1 +1,2 @@
-pub mod Surveys
+pub mod Values
+pub mod Reports

@@ -3,23 +3,27 @@ use mathlib.Core.List.{List}
 use Prim.Native.Nat.{ℕ}
 use lib.ListN.{length}
 use Rattle.tags.specs.Verdict.{verdictNumber, verdictValue}
-use Rattle.sheet.specs.Opening.{openedWithLog, byOpened}
-use Rattle.verdicts.specs.Judge.{verdictOf, imageChain}
-use Rattle.sheet.specs.declared.geometry.Sheet.{Sheet}
+use Rattle.tags.specs.Filling.{Filling, unfilled, told}
 use Rattle.tags.specs.declared.refusal.Refusal.the-variants.{ShortOutput}
+use Rattle.tags.specs.declared.refusal.Answer.{Answer}
+use Rattle.tags.specs.declared.refusal.Answer.the-variants.{Value, Refused}
+use Rattle.sheet.specs.Areas.{Areas, Image, openingWithLog, byImage}
+use Rattle.verdicts.specs.Chain.{chainOf}
+use Rattle.verdicts.specs.Judge.{verdictOf}
 use Rattle.lines.specs.Text.{textOf, writing}
 use Rattle.lines.specs.declared.text.Written.{Written}
 use Rattle.lines.specs.declared.text.Written.the-variants as written
-use Rattle.tags.specs.declared.refusal.Answer.{Answer}
-use Rattle.tags.specs.declared.refusal.Answer.the-variants.{Value, Refused}
-use Rattle.tags.specs.Filling.{Filling, unfilled, told}
-use Rattle.sheet.specs.Areas.{Areas}
+
+-- J2, J8 (the number and the value of the verdict on buffer i of an image)
+abbrev pub numberOf : Image → ℕ → ℕ
+numberOf m i = verdictNumber (verdictOf m i)
+
+abbrev pub valueOf : Image → ℕ → ℕ
+valueOf m i = verdictValue (verdictOf m i)
 
 -- G3 (the text of an image): each buffer's verdict, the records that the chain meets and how it ends
-unfoldable pub reportText : Sheet → List ℕ → List ℕ → List ℕ
-reportText g heap records =
-    textOf (λ i. verdictNumber (verdictOf g heap records i)) (λ i. verdictValue (verdictOf g heap records i)) (g .count)
-    (length (imageChain g records .met)) (imageChain g records .ending)
+unfoldable pub reportText : Image → List ℕ
+reportText m = textOf (numberOf m) (valueOf m) (m .sheet .count) (length (chainOf m .met)) (chainOf m .ending)
 
 -- E8 (X11): what is answered where a text was written, or had no room
 abbrev pub reportedBy : Written → Answer
@@ -32,7 +36,4 @@ reporting text output = told reportedBy (writing text output)
 
 -- G3 (the report), after E3 with the log
 unfoldable pub reportOf : Areas → ℕ → List ℕ → Filling Answer ℕ
-reportOf a l output =
-    byOpened (openedWithLog (a .sheet) (length (a .heap)) (length (a .records)) l)
-    (λ g. reporting (reportText g (a .heap) (a .records)) output)
-    (λ why. unfilled (Refused why) output)
+reportOf a l output = byImage (openingWithLog a l) a (λ m. reporting (reportText m) output) (λ why. unfilled (Refused why) output)

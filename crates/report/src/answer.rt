@@ -2,31 +2,59 @@
 ghost use mathlib.Core.Path.{_≡_};
 ghost use lib.ListN.{length};
 ghost use Rattle.tags.specs.Filling.{filling};
-ghost use Rattle.sheet.specs.Areas.{before};
-ghost use Rattle.report.specs.Answer.{reportOf};
-use image::inspect;
-use image::inspect::Surveyed;
-use lines::text;
+ghost use Rattle.sheet.specs.Opening.{Open};
+ghost use Rattle.sheet.specs.Areas.{before, imageIn};
+ghost use Rattle.report.specs.Answer.{reportText, reporting, reportOf};
+use crate::whole;
 use lines::text::Written;
+use sheet::geometry::Sheet;
+use sheet::opening;
+use sheet::opening::Opened;
 use tags::refusal::Answer;
 use tags::refusal::Refusal;
+use verdicts::marks;
+
+// Writes the report of an image that is open, with a byte for each record to mark those that the chain meets.
+fn report_marked(
+    heap: &[u8],
+    records: &[u8],
+    g: Sheet,
+    marks: &mut [u8],
+    output: &mut [u8],
+) -> Answer
+    requires { ⌜ Open (length (now heap)) (length (now records)) g ⌝ }
+    requires { ⌜ length (now marks) ≡ g .count ⌝ }
+    ensures { λ r. ⌜ filling r (now (output .exit))
+        ≡ reporting (reportText (imageIn g (heap .entry) (records .entry))) (now (output .entry)) ⌝ }
+{
+    let walked = marks::mark(records, g, marks);
+    let ending = walked.ending;
+    let written = whole::write_report(output, heap, records, g, marks, walked.met, ending);
+    match written {
+        Written::Short => Answer::Refused(Refusal::ShortOutput),
+        Written::Length(k) => Answer::Value(k as u32),
+    }
+}
+
+// Writes the report of an image that is open. Nothing is kept of a buffer, and of a record one byte.
+fn report_image(heap: &[u8], records: &[u8], g: Sheet, output: &mut [u8]) -> Answer
+    requires { ⌜ Open (length (now heap)) (length (now records)) g ⌝ }
+    ensures { λ r. ⌜ filling r (now (output .exit))
+        ≡ reporting (reportText (imageIn g (heap .entry) (records .entry))) (now (output .entry)) ⌝ }
+{
+    let mut area = [0u8; 512];
+    let n = g.count;
+    report_marked(heap, records, g, &mut area[..n], output)
+}
 
 // Writes the report of an image to the output's start and answers its length.
 pub fn report(sheet: &[u8], heap: &[u8], records: &[u8], log: &[u8], output: &mut [u8]) -> Answer
     ensures { λ r. ⌜ filling r (now (output .exit))
         ≡ reportOf (before sheet heap records) (length (now (log .entry))) (now (output .entry)) ⌝ }
 {
-    let mut rows = [0u32; 1536];
-    let surveyed = inspect::survey(sheet, heap, records, log, &mut rows);
-    match surveyed {
-        Surveyed::Refused(why) => Answer::Refused(why),
-        Surveyed::Image(o) => {
-            let ending = o.ending;
-            let written = text::write_report(&rows, o.count, o.met, ending, output);
-            match written {
-                Written::Short => Answer::Refused(Refusal::ShortOutput),
-                Written::Length(n) => Answer::Value(n as u32),
-            }
-        }
+    let opened = opening::open_with_log(sheet, heap.len(), records.len(), log.len());
+    match opened {
+        Opened::Refused(why) => Answer::Refused(why),
+        Opened::Sheet(g) => report_image(heap, records, g, output),
     }
 }

@@ -1,8 +1,11 @@
 // The report of one cache.
 //
 // The layer promises: a report is, byte for byte, document 01's text of the verdicts, of the chain and of the count of fault
-// lines. It judges nothing and words nothing: what is found of the buffers and of the chain, and how it is written, is for the
-// layers below.
+// lines. It keeps no table: each buffer is judged where its line is put. How a buffer is judged, and how a line is worded, is
+// for the layers below.
+
+// The whole text of an image.
+mod whole;
 
 // The call: the report of an image.
 pub mod answer;

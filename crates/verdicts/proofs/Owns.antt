@@ -126,7 +126,9 @@ module _ (g : Sheet) (records : List ℕ) (i : ℕ) where
   -- an own record is one of the n
   pub own-below : (j : ℕ) → ownIn g records i ≡ One j → j < g .count
   unfolding ownIn
-  own-below j e = first-names (addressWord records) (g .count) (bufferAddress g i) j [] (the-one (namers (addressWord records) (g .count) (bufferAddress g i)) j e) .0
+  own-below j e =
+      first-names (addressWord records) (g .count) (bufferAddress g i) j []
+      (the-one (namers (addressWord records) (g .count) (bufferAddress g i)) j e) .0
 
   -- ---- the own record by its count
 

@@ -1,26 +1,33 @@
 -- The pieces of the line stand one after the other, by how the chain ends. Assumes nothing.
+use mathlib.Core.List.{List}
+use Prim.Native.Nat.{ℕ, _+_, _≤_}
 use native.Mathlib.Omega.{arith}
 use borrow.Author.Needs.{needs}
-use Rattle.lines.specs.Text.{chainLineOf}
-use Rattle.lines.proofs.Texts.{then}
+use Rattle.lines.specs.Text.{chainLineOf, chainMost, Wrote}
+use Rattle.lines.proofs.Texts.{then, chain-line-short}
 use Rattle.lines.proofs.text.put_chain.Statement.{statement}
 use Rattle.lines.proofs.text.put_chain.Tie as tie
+
+-- the line that was put is short
+short : (s : tie.Start) {m : List ℕ} {q : ℕ} → Wrote (s .args .output .now) (s .args .at) (chainLineOf (s .args .met) (s .args .ending)) m q
+    → Wrote (s .args .output .now) (s .args .at) (chainLineOf (s .args .met) (s .args .ending)) m q × (q ≤ s .args .at + chainMost)
+short s w = (w, omega (arith, w .ends, chain-line-short (s .args .met) (s .args .ending) (s .pre .1 .0) (s .pre .1 .1)))
 
 returns : tie.Need-returns
 unfolding chainLineOf
 returns c =
     let w = c .before .before in
     let m = w .before .before .before in
-    let v = m .before .before .before .before .put .ensures in
-    rw (m .enum-told .given .1) (then v (w .put-field .ensures .0), omega (arith, v .ends, w .put-field .ensures .1))
+    let p = m .before .before .before .before in
+    short (p .before .before .before .before) (rw (m .enum-told .given .1) (then (p .put .ensures) (w .put-field .ensures .0)))
 
 returns-2 : tie.Need-returns-2
 unfolding chainLineOf
 returns-2 c =
     let w = c .before .before in
     let m = w .before .before .before in
-    let v = m .before .before .before .before .put .ensures in
-    rw (m .enum-told2 .given .1) (then v (w .put-field2 .ensures .0), omega (arith, v .ends, w .put-field2 .ensures .1))
+    let p = m .before .before .before .before in
+    short (p .before .before .before .before) (rw (m .enum-told2 .given .1) (then (p .put .ensures) (w .put-field2 .ensures .0)))
 
 returns-3 : tie.Need-returns-3
 unfolding chainLineOf
@@ -28,9 +35,8 @@ returns-3 c =
     let w = c .before .before .put-field4 .ensures in
     let v = c .before .before .before .before .before .before .before in
     let m = v .before .before .before .before in
-    let u = m .before .before .before .before .put .ensures in
-    let e = v .put-field3 .ensures in
-    rw (m .ending .given .1) (then (then u (e .0)) (w .0), omega (arith, u .ends, e .1, w .1))
+    let p = m .before .before .before .before in
+    short (p .before .before .before .before) (rw (m .ending .given .1) (then (then (p .put .ensures) (v .put-field3 .ensures .0)) (w .0)))
 
 pub put-chain-spec : {M : Type 1} → statement M
 put-chain-spec =

@@ -1,6 +1,5 @@
 -- The pieces of the line stand one after the other, with an offset or without. Assumes nothing.
 use mathlib.Core.Path.{sym, _∙_}
-use native.Mathlib.Omega.{arith}
 use borrow.Author.Needs.{needs}
 use Rattle.lines.specs.Text.{faultLineOf}
 use Rattle.lines.proofs.Texts.{then}
@@ -15,7 +14,7 @@ returns c =
     let u = f .before .before .before .before .put-field .ensures in
     let v = l .put-field2 .ensures in
     let w = c .before .before .put-field3 .ensures in
-    simp (sym (f .before .has-offset .ensures) ∙ f .if1 .taken) (then (then (u .0) (v .0)) (w .0), omega (arith, u .1, v .1, w .1))
+    simp (sym (f .before .has-offset .ensures) ∙ f .if1 .taken) (then (then (u .0) (v .0)) (w .0))
 
 returns-2 : tie.Need-returns-2
 unfolding faultLineOf
@@ -23,7 +22,7 @@ returns-2 c =
     let f = c .before .before .before .before .before in
     let v = f .before .before .before .before .put-field .ensures in
     let w = c .before .before .put-field4 .ensures in
-    simp (sym (f .before .has-offset .ensures) ∙ f .if1 .left) (then (v .0) (w .0), omega (arith, v .1, w .1))
+    simp (sym (f .before .has-offset .ensures) ∙ f .if1 .left) (then (v .0) (w .0))
 
 pub put-fault-spec : {M : Type 1} → statement M
 put-fault-spec =

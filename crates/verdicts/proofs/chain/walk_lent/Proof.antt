@@ -208,8 +208,8 @@ module _ {M : Type 1} (𝓤 : URA M) (H : Heap 𝓤) (A : Atoms 𝓤) (W : Given
         ⊛ raw (ensured 𝓤 H A walk.ended (walk.clauses 𝓤 H A at-mem run) (κ₀, (κ₁, (ν ∷ κ, (κ, tt)))) (passed l₇ δ) tt r)))) (id⊢ 𝓤 _) $
         await ! tt $ pick ! (λ r. split ! $ move ! (1 ∷ []) $
         -- what `walk` ensures, at some last value of the local
-        use1 W (some (λ (ys : Lasts). ‵ (lasts walk.ended (κ₀, (κ₁, (ν ∷ κ, (κ, tt)))) (passed l₇ δ) ys) ⊛ raw (fact 𝓤 (Ensured r ys)))) (id⊢ 𝓤 _) $ pick ! (λ ys.
-        split ! $ move ! (1 ∷ []) $ heard ! (Ensured r ys) (λ e.
+        use1 W (some (λ (ys : Lasts). ‵ (lasts walk.ended (κ₀, (κ₁, (ν ∷ κ, (κ, tt)))) (passed l₇ δ) ys) ⊛ raw (fact 𝓤 (Ensured r ys)))) (id⊢ 𝓤 _) $
+        pick ! (λ ys. split ! $ move ! (1 ∷ []) $ heard ! (Ensured r ys) (λ e.
         fsplit ! $ drop ! $ fsplit ! $ drop ! $ fsplit ! $ drop ! $ fsplit ! $ drop ! $ fsplit ! $ drop ! $ fsplit ! $
         move ! (2 ∷ []) $ split ! $ move ! (1 ∷ []) $ peeks ! u64 (Is u64) (shows 𝓤 H A u64) r (w ∷ []) (λ is.
         -- [the result; the tokens; the last value; …; the lender's part; …; _9; …; _8; …; …; _6; …; _5; …; _4; …; _3; …; _2; …; _1; …; room for _0; …]

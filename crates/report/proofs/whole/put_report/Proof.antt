@@ -1,0 +1,116 @@
+-- The lines passed are put, and the faults among them counted; behind them stand the chain line and the last line. Assumes nothing.
+use mathlib.Core.Path.{_≡_, sym, ap, subst, _∙_}
+use mathlib.Core.List.{List}
+use Prim.Native.Nat.{ℕ, _+_, _*_, _-_, _≤_, _<_}
+use native.Mathlib.Numerals.{add-one}
+use native.Mathlib.Omega.{arith}
+use borrow.Author.Needs.{needs}
+use Rattle.words.proofs.Parts.{flat-nil, flat-suc}
+use Rattle.words.proofs.Sums.{total-zero, total-suc}
+use Rattle.tags.specs.Ending.{endingValue}
+use Rattle.tags.specs.Verdict.{verdictNumber, verdictValue}
+use Rattle.tags.specs.declared.ending.Ending.{Ending}
+use Rattle.tags.specs.declared.verdict.Verdict.{Verdict}
+use Rattle.sheet.specs.Areas.{Image, image}
+use Rattle.lines.specs.Text.{lineOf, linesOf, faultOf, faultsIn, Wrote, mostBuffers, headerMost, lineMost}
+use Rattle.lines.proofs.Texts.{then, wrote-none}
+use Rattle.report.specs.Answer.{numberOf, valueOf, reportText}
+use Rattle.verdicts.proofs.Chains.{chain-short}
+use Rattle.report.proofs.Reports.{ending-below, report-is}
+use Rattle.report.proofs.whole.put_report.Statement.{statement}
+use Rattle.report.proofs.whole.put_report.Tie as tie
+
+abbrev Inv-loop : tie.InvT-loop
+Inv-loop output₀ heap records g marks met ending n at₀ faults₀ i₀ output at faults i =
+    (i ≤ n)
+    × (faults ≤ i)
+    × (at ≤ headerMost + i * lineMost)
+    × (faults ≡ faultsIn (numberOf (image g heap records)) i)
+    × Wrote output₀ at₀ (linesOf (numberOf (image g heap records)) (valueOf (image g heap records)) i) output at
+
+abbrev μ-loop : tie.MeasureT-loop
+μ-loop output₀ heap records g marks met ending n at₀ faults₀ i₀ output at faults i = n - i
+
+-- the image that the function is lent
+abbrev lent : tie.Start Inv-loop μ-loop → Image
+lent s = image (s .args .g) (s .args .heap .now) (s .args .records .now)
+
+loop-holds : tie.Need-loop-holds Inv-loop μ-loop
+loop-holds c =
+    let h = c .before .before .put-header in
+    let m = lent (c .before .before .before .before .before .before .before .before) in
+    let none = sym (flat-nil (λ (i : ℕ). lineOf i (numberOf m i) (valueOf m i))) in (
+      search needs,
+      search needs,
+      omega (arith, h .ensures .1),
+      sym (total-zero (λ (i : ℕ). faultOf (numberOf m i))),
+      subst (λ (x : List ℕ). Wrote (h .last .0) (h .result) x (h .last .0) (h .result)) none (wrote-none (h .last .0) (h .result)),
+    )
+
+loop-again : tie.Need-loop-again Inv-loop μ-loop
+loop-again c =
+    let f = c .fault .ensures in
+    let w = c .before .before .before .put-line in
+    let j = c .before .before .before .before .before .judge-buffer .ensures in
+    let p = c .before .before .before .before .before .before .before in
+    let l = p .loop in
+    let e = l .inv in
+    let m = lent (p .before .before .before .before .before .before .before .before .before) in
+    let line =
+        subst (λ (v : Verdict). Wrote (l .output) (l .at) (lineOf (l .i) (verdictNumber v) (verdictValue v)) (w .last .0) (w .result)) j
+        (w .ensures .0) in (
+      search needs,
+      omega (arith, f .1, e .1),
+      omega (arith, w .ensures .1, e .2),
+      rw (add-one, total-suc)
+          (ap (λ (x : ℕ). l .faults + x) (f .0 ∙ ap (λ (v : Verdict). faultOf (verdictNumber v)) j) ∙ ap (λ (x : ℕ). x + faultOf (numberOf m (l .i))) (e .3)),
+      rw (add-one, flat-suc) (then (e .4) line),
+    )
+
+put-chain-requires : tie.Need-put-chain-requires Inv-loop μ-loop
+put-chain-requires c κs =
+    let l = c .before .before in
+    let s = l .before .before .before .before .before .before .before .before .before in
+    let z = s .pre .0 .law .sizes in
+    let few = chain-short (s .args .g) (s .args .records .now) in
+    let below = ending-below (s .args .g) (s .args .records .now) z in (
+      omega (arith, l .loop .inv .0, l .loop .inv .2, z .few),
+      (omega (arith, few, s .pre .1 .1 .0, z .few), subst (λ (e : Ending). endingValue e < mostBuffers) (sym (s .pre .1 .1 .1)) (omega (arith, below, z .few))),
+    )
+
+-- the whole text, at the function's end
+whole : (c : tie.After-slice-known5 Inv-loop μ-loop) →
+    let s = c .before .before .before .before .before .before .before .before .before .before .before .before .before .before .before .before .before .before in
+    let w = c .before .before .put-faults in
+    Wrote (s .args .output .now) 0 (reportText (lent s)) (w .last .0) (w .result)
+whole c =
+    let w = c .before .before .put-faults in
+    let k = c .before .before .before .before .before .before .put-chain in
+    let t = c .before .before .before .before .before .before .before .before in
+    let l = t .before .loop in
+    let h = t .before .before .before .before .put-header in
+    let s = t .before .before .before .before .before .before .before .before .before .before in
+    subst (λ (x : List ℕ). Wrote (s .args .output .now) 0 x (w .last .0) (w .result))
+    (report-is (lent s) (l .i) (l .faults) (s .args .met) (s .args .ending) (omega (arith, t .loop-test .left, l .inv .0)) (l .inv .3)
+    (s .pre .1 .1 .0) (s .pre .1 .1 .1))
+    (then (then (then (h .ensures .0) (l .inv .4)) (k .ensures .0)) (w .ensures .0))
+
+pub put-report-spec : {M : Type 1} → statement M
+put-report-spec =
+    tie.close
+    (tie.spec
+    Inv-loop
+    μ-loop
+    (λ c κs. search needs)
+    loop-holds
+    (λ c κs. search needs)
+    (λ c κs. search needs)
+    (λ c κs. search needs)
+    (λ c. search needs)
+    (λ c. search needs)
+    (λ c. search needs)
+    loop-again
+    put-chain-requires
+    (λ c κs. search needs)
+    (λ c. whole c .long)
+    whole)
