@@ -57,8 +57,8 @@ loop-again c =
     let e = l .inv in
     let m = lent (p .before .before .before .before .before .before .before .before .before) in
     let line =
-        subst (λ (v : Verdict). Wrote (l .output) (l .at) (lineOf (l .i) (verdictNumber v) (verdictValue v)) (w .last .0) (w .result)) j
-        (w .ensures .0) in (
+    subst (λ (v : Verdict). Wrote (l .output) (l .at) (lineOf (l .i) (verdictNumber v) (verdictValue v)) (w .last .0) (w .result)) j
+    (w .ensures .0) in (
       search needs,
       omega (arith, f .1, e .1),
       omega (arith, w .ensures .1, e .2),
