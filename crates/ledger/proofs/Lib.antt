@@ -1,7 +1,6 @@
 pub mod Chunks
-pub mod Sheets
 pub mod Counts
-pub mod State
+pub mod Invariant
 pub mod Found
 pub mod Calls
 pub mod Keeps
@@ -9,4 +8,3 @@ pub mod Start
 pub mod Always
 pub mod Theorem
 pub mod Examples
-pub mod Checks
