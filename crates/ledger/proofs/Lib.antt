@@ -8,3 +8,4 @@ pub mod Start
 pub mod Always
 pub mod Theorem
 pub mod Examples
+pub mod Checks
