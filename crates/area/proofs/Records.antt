@@ -1,5 +1,5 @@
 -- A record's words, by its index and by its address, and what a call writes for a record. Assumes nothing.
-use mathlib.Core.Path.{_≡_, refl, ap, _∙_}
+use mathlib.Core.Path.{_≡_, refl, sym, ap, _∙_}
 use mathlib.Core.Logic.{_≢_, inl, inr}
 use mathlib.Core.List.{List, _++_}
 use Prim.Native.Nat.{ℕ, _+_, _-_, _*_, _≤_, _<_}
@@ -7,10 +7,10 @@ use native.Mathlib.Nat.{add-zero}
 use native.Mathlib.Omega.{arith}
 use lib.ListN.{length, replicate, length-append, length-replicate}
 use lib.Seq.{sets, length-sets}
-use Rattle.words.specs.Word.{part, bytesOf, number, numberAt}
+use Rattle.words.specs.Word.{part, flat, bytesOf, number, numberAt}
 use Rattle.words.specs.Run.{repeated}
-use Rattle.words.proofs.Parts.{sets-next, part-place, part-field}
-use Rattle.words.proofs.Numbers.{length-bytesOf, numberAt-written}
+use Rattle.words.proofs.Parts.{sets-next, part-place, part-field, part-part, part-left, part-right, part-all, part-front, part-flat}
+use Rattle.words.proofs.Numbers.{length-bytesOf, number-back, numberAt-written}
 use Rattle.words.proofs.Runs.{repeated-none}
 use Rattle.area.specs.Record.{recordSize, recordWord, nextAt, bufferAt, stampHighAt, stampLowAt, threadAt, withNext, stamped, recordBytes}
 use Rattle.area.specs.Place.{placeAddress}
@@ -102,4 +102,40 @@ record-run l a b c d e at next buffer cache ea eb ec ed ee =
     let q₂ = sets-next l p₁ (bytesOf 4 buffer) at 4 (at + 4) q₁ (length-bytesOf 4 next) refl eb in
     let q₃ = sets-next l p₂ (bytesOf 4 0) at 8 (at + 8) q₂ (simp (length-append, length-bytesOf)) refl ec in
     let q₄ = sets-next l p₃ (bytesOf 4 cache) at 12 (at + 12) q₃ (simp (length-append, length-bytesOf)) refl ed in
-    rw (← repeated-none (recordSize - stampHighAt)) (sets-next l p₄ (repeated (recordSize - stampHighAt) 0) at stampHighAt (at + stampHighAt) q₄ (simp (length-append, length-bytesOf)) refl ee)
+    rw (← repeated-none (recordSize - stampHighAt))
+    (sets-next l p₄ (repeated (recordSize - stampHighAt) 0) at stampHighAt (at + stampHighAt) q₄ (simp (length-append, length-bytesOf)) refl ee)
+
+-- its next word, and its buffer's address
+module _ (next buffer cache : ℕ) where
+  first-two : (o w : ℕ) → part (bytesOf 4 next ++ bytesOf 4 buffer) o 4 ≡ bytesOf 4 w → o + 4 ≤ 8 → w < 4294967296
+      → numberAt 4 (recordBytes next buffer cache) o ≡ w
+  unfolding recordBytes numberAt
+  first-two o w e h fits =
+      let a = bytesOf 4 next ++ bytesOf 4 buffer in
+      let l : length a ≡ 8 = simp (length-append, length-bytesOf) in
+      let p = bytesOf 4 0 in
+      let q = bytesOf 4 cache in
+      ap number
+      (part-left (a ++ p ++ q) (replicate (recordSize - stampHighAt) 0) o 4 (simp (length-append, length-bytesOf) (omega arith))
+      ∙ part-left (a ++ p) q o 4 (simp (length-append, length-bytesOf) (omega arith))
+      ∙ part-left a p o 4 (omega arith)
+      ∙ e)
+      ∙ number-back 4 w fits
+
+  pub whole-next : next < 4294967296 → numberAt 4 (recordBytes next buffer cache) nextAt ≡ next
+  whole-next = first-two nextAt next (part-front (bytesOf 4 next) (bytesOf 4 buffer) 4 (length-bytesOf 4 next)) (omega arith)
+
+  pub whole-name : buffer < 4294967296 → numberAt 4 (recordBytes next buffer cache) bufferAt ≡ buffer
+  whole-name =
+      first-two bufferAt buffer
+      (part-right (bytesOf 4 next) (bytesOf 4 buffer) bufferAt 0 4 (omega (arith, length-bytesOf 4 next))
+      ∙ part-all (bytesOf 4 buffer) 4 (length-bytesOf 4 buffer))
+      (omega arith)
+
+-- the words of records that are written one behind the other
+pub flat-word : (f : ℕ → List ℕ) → ((i : ℕ) → length (f i) ≡ recordSize) → (n j o : ℕ) → j < n → o + 4 ≤ recordSize
+    → recordWord (flat n f) j o ≡ numberAt 4 (f j) o
+unfolding recordWord numberAt
+flat-word f long n j o h k =
+    ap number
+    (sym (part-part (flat n f) (j * recordSize) recordSize o 4 k) ∙ ap (λ (x : List ℕ). part x o 4) (part-flat recordSize f long n j h))

@@ -14,50 +14,50 @@ use Rattle.chunks.specs.Chunk.{chunkOf, freeChunk, grantedChunk, tagAt}
 use Rattle.chunks.specs.Judge.{freeVerdict, allocatedVerdict, zoneVerdict, sizedVerdict}
 use Rattle.tags.specs.Verdict.{verdictNumber, verdictValue}
 use Rattle.chunks.specs.declared.chunk.Grant.the-variants as grant
-use Rattle.area.specs.Record.{stamped, recordWord}
-use Rattle.sheet.specs.Fields.{fieldIs, shaped, sheetOf}
+use Rattle.area.specs.Record.{recordBytes, stamped, recordWord}
+use Rattle.sheet.specs.Fields.{fieldIs, shaped, sheetOf, sheetBytes, withHead}
 use Rattle.sheet.specs.Limits.{sizesLawful, basesLawful, lawful}
 use Rattle.sheet.specs.Opening.{measured, numbered, openedOf}
 use Rattle.area.specs.Place.{placeOf}
-use Rattle.verdicts.specs.Judge.{ownedVerdict, chainedVerdict}
+use Rattle.verdicts.specs.Judge.{standing, ownedVerdict, chainedVerdict}
 use Rattle.transactions.specs.Latest.{considered, latestRow}
-use Rattle.layout.specs.Layout.{linkTo, recordBytes, laidAreas, layOutPlan, layOutOf}
-use Rattle.sheet.specs.Fields.{sheetBytes}
+use Rattle.layout.specs.Layout.{linkTo, laidAreas, layOutPlan, layOutOf}
 use Rattle.allocation.specs.Allocate.{takenChunk, takenHead, takenOf, allocatePlan, grantedAreas, allocateOf}
-use Rattle.ledger.specs.Ledger.{allocate, resultOf, put, opened, run}
-use Rattle.ledger.specs.Checks.{freshAreas, refusedAs, rowLatest, Check, tagged, judged, aged, next, Holds, AllHold, checks, freeWith, allocatedWith}
+use Rattle.ledger.specs.Ledger.{stampOf, allocate, resultOf, put, begun, run}
+use Rattle.ledger.specs.Checks.{freshAreas, refusedAs, rowLatest, Check, tagged, examined, aged, next, ClaimOf, AllClaims, checks, freeWith, allocatedWith}
 
 abbrev test : Check → Bool
 test (tagged t0 t1 s) = eqb (bitXor t0 t1) (stateWord s)
-test (judged c a met number value) =
-    eqb (verdictNumber (ownedVerdict c a met false)) number && eqb (verdictValue (ownedVerdict c a met false)) value
+test (examined c a met number value) =
+    eqb (verdictNumber (ownedVerdict c a (standing met false))) number && eqb (verdictValue (ownedVerdict c a (standing met false))) value
 test (aged time first second age₁ age₂) =
     eqb (ageOf 32 time first) age₁ && (eqb (ageOf 32 time second) age₂ && (rowLatest time first second && not (rowLatest time second first)))
-test (next calls number) = eqb (refusedAs (resultOf (allocate grant.Whole 4 7) (run 24 calls (opened freshAreas) .areas) .answer)) number
+test (next calls number) = eqb (refusedAs (resultOf (allocate grant.Whole (stampOf 4 7)) (run 24 calls (begun freshAreas) .areas) .answer)) number
 
-holds : (c : Check) → test c ≡ true → Holds c
+holds : (c : Check) → test c ≡ true → ClaimOf c
 holds (tagged t0 t1 s) e = eqb-true (bitXor t0 t1) (stateWord s) e
-holds (judged c a met number value) e =
+holds (examined c a met number value) e =
     let both = and-eq-true-iff _ _ .0 e in
-    (eqb-true (verdictNumber (ownedVerdict c a met false)) number (both .0), eqb-true (verdictValue (ownedVerdict c a met false)) value (both .1))
+    let v = ownedVerdict c a (standing met false) in
+    (eqb-true (verdictNumber v) number (both .0), eqb-true (verdictValue v) value (both .1))
 holds (aged time first second age₁ age₂) e =
     let one = and-eq-true-iff _ _ .0 e in
     let two = and-eq-true-iff _ _ .0 (one .1) in
     let three = and-eq-true-iff _ _ .0 (two .1) in
     (eqb-true (ageOf 32 time first) age₁ (one .0), eqb-true (ageOf 32 time second) age₂ (two .0), three .0, not-true (rowLatest time second first) (three .1))
-holds (next calls number) e = eqb-true (refusedAs (resultOf (allocate grant.Whole 4 7) (run 24 calls (opened freshAreas) .areas) .answer)) number e
+holds (next calls number) e = eqb-true (refusedAs (resultOf (allocate grant.Whole (stampOf 4 7)) (run 24 calls (begun freshAreas) .areas) .answer)) number e
 
 abbrev all : List Check → Bool
 all [] = true
 all (c ∷ cs) = test c && all cs
 
-all-hold : (cs : List Check) → all cs ≡ true → AllHold cs
+all-hold : (cs : List Check) → all cs ≡ true → AllClaims cs
 all-hold [] e = tt
 all-hold (c ∷ cs) e = let both = and-eq-true-iff _ _ .0 e in (holds c (both .0), all-hold cs (both .1))
 
 computed : all checks ≡ true
-unfolding checks freeWith allocatedWith freshAreas run put layOutPlan layOutOf laidAreas sheetBytes recordBytes flat linkTo part number bytesOf numberAt repeated differenceFrom tagOf patternOf patternWord decodedOf chunkOf freeChunk grantedChunk tagAt ownedVerdict chainedVerdict rowLatest considered latestRow freeVerdict allocatedVerdict zoneVerdict sizedVerdict ageOf stamped fieldIs shaped sheetOf measured numbered openedOf lawful sizesLawful basesLawful placeOf recordWord takenChunk takenHead takenOf allocatePlan grantedAreas allocateOf
+unfolding checks freeWith allocatedWith freshAreas run put layOutPlan layOutOf laidAreas sheetBytes recordBytes flat linkTo part number bytesOf numberAt repeated differenceFrom tagOf patternOf patternWord decodedOf chunkOf freeChunk grantedChunk tagAt ownedVerdict chainedVerdict rowLatest considered latestRow freeVerdict allocatedVerdict zoneVerdict sizedVerdict ageOf stamped fieldIs shaped sheetOf withHead measured numbered openedOf lawful sizesLawful basesLawful placeOf recordWord takenChunk takenHead takenOf allocatePlan grantedAreas allocateOf
 computed = refl
 
-pub checks-hold : AllHold checks
+pub checks-hold : AllClaims checks
 checks-hold = all-hold checks computed

@@ -29,7 +29,7 @@ use Rattle.tags.specs.declared.tag.State.the-variants as state
 use Rattle.chunks.specs.declared.chunk.Grant.{Grant}
 use Rattle.chunks.specs.declared.chunk.Grant.the-variants as grant
 use Rattle.tags.specs.declared.verdict.Verdict.the-variants.{Free, Whole, Allocated}
-use Rattle.ledger.specs.Ledger.{Loan, fresh, laidOver, asGranted}
+use Rattle.ledger.specs.Ledger.{Entry, fresh, overwritten, asGranted}
 
 -- ---- the words behind the buffer
 
@@ -168,19 +168,19 @@ free-sound size a =
 
 -- ---- a chunk as the ledger has it
 
-abbrev pub stateFor : Option Loan → State
+abbrev pub stateFor : Option Entry → State
 stateFor none = state.Free
 stateFor (some o) = state.Allocated
 
 -- the chunk, with a record at the address a
-abbrev pub chunkFor : ℕ → ℕ → Option Loan → List ℕ
+abbrev pub chunkFor : ℕ → ℕ → Option Entry → List ℕ
 chunkFor size a none = freeChunk size a
 chunkFor size a (some o) = sets (grantedChunk size a (o .grant)) 0 (o .client)
 
 -- what holds of a loan
-abbrev pub LawfulLoan : ℕ → Option Loan → Type 0
-LawfulLoan size none = Unit {0}
-LawfulLoan size (some o) = (lawfulSize size (o .grant) ≡ true) × (length (o .client) ≡ grantSize size (o .grant))
+abbrev pub LawfulEntry : ℕ → Option Entry → Type 0
+LawfulEntry size none = Unit {0}
+LawfulEntry size (some o) = (lawfulSize size (o .grant) ≡ true) × (length (o .client) ≡ grantSize size (o .grant))
 
 module _ (size a : ℕ) (few : size ≤ 4096) (word : a < 4294967296) where
   tag-word : (s : State) → tagOf a s .t1 < 4294967296
@@ -228,7 +228,7 @@ module _ (size a : ℕ) (few : size ≤ 4096) (word : a < 4294967296) where
   granted-tag (grant.Sized s) l vs h = tag-is (ends-within (sized-ends s (lawful-within size s (grant.Sized s) refl l .1)) vs 0 (omega arith))
 
   -- T0 and T1 are the record's
-  pub tag-for : (o : Option Loan) → LawfulLoan size o → tagAt (chunkFor size a o) ≡ tagOf a (stateFor o)
+  pub tag-for : (o : Option Entry) → LawfulEntry size o → tagAt (chunkFor size a o) ≡ tagOf a (stateFor o)
   tag-for none l = tag-is free-ends
   tag-for (some o) l = granted-tag (o .grant) (l .0) (o .client) (omega (arith, l .1, grant-within size (o .grant) (l .0)))
 
@@ -274,21 +274,21 @@ fresh-chunk size a q l =
     sym (sets-same (grantedChunk size a q) (grantSize size q) (omega (arith, grant-within size q l, length-grantedChunk size a q)))
     ∙ ap (λ (x : List ℕ). sets (grantedChunk size a q) 0 x) (granted-front size a q l)
 
-pub fresh-lawful : (size : ℕ) (q : Grant) → lawfulSize size q ≡ true → LawfulLoan size (some (fresh size q))
+pub fresh-lawful : (size : ℕ) (q : Grant) → lawfulSize size q ≡ true → LawfulEntry size (some (fresh size q))
 fresh-lawful size q l = (l, length-repeated (grantSize size q) grantFill)
 
 -- the client bytes
-pub client-part : (size a : ℕ) (o : Loan) → LawfulLoan size (some o) → part (chunkFor size a (some o)) 0 (grantSize size (o .grant)) ≡ o .client
+pub client-part : (size a : ℕ) (o : Entry) → LawfulEntry size (some o) → part (chunkFor size a (some o)) 0 (grantSize size (o .grant)) ≡ o .client
 client-part size a o l =
     part-written (grantedChunk size a (o .grant)) (o .client) 0 (grantSize size (o .grant)) (l .1)
     (omega (arith, grant-within size (o .grant) (l .0), length-grantedChunk size a (o .grant)))
 
 -- a store into them
-pub store-chunk : (size a offset : ℕ) (bytes : List ℕ) (o : Loan) → LawfulLoan size (some o) → offset + length bytes ≤ grantSize size (o .grant)
-    → sets (chunkFor size a (some o)) offset bytes ≡ chunkFor size a (laidOver offset bytes (some o))
+pub store-chunk : (size a offset : ℕ) (bytes : List ℕ) (o : Entry) → LawfulEntry size (some o) → offset + length bytes ≤ grantSize size (o .grant)
+    → sets (chunkFor size a (some o)) offset bytes ≡ chunkFor size a (overwritten offset bytes (some o))
 store-chunk size a offset bytes o l h =
     sets-over (grantedChunk size a (o .grant)) (o .client) bytes offset (omega (arith, l .1))
     (omega (arith, l .1, grant-within size (o .grant) (l .0), length-grantedChunk size a (o .grant)))
 
-pub store-lawful : (size offset : ℕ) (bytes : List ℕ) (o : Loan) → LawfulLoan size (some o) → LawfulLoan size (laidOver offset bytes (some o))
+pub store-lawful : (size offset : ℕ) (bytes : List ℕ) (o : Entry) → LawfulEntry size (some o) → LawfulEntry size (overwritten offset bytes (some o))
 store-lawful size offset bytes o l = (l .0, length-sets (o .client) offset bytes ∙ l .1)

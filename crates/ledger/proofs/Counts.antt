@@ -11,8 +11,8 @@ use Rattle.area.specs.Place.{placeAddress, placeOf}
 use Rattle.verdicts.specs.Chain.{occ}
 use Rattle.area.specs.declared.place.Place.the-variants.{Nowhere}
 use Rattle.area.proofs.Places.{address-one, place-missed}
-use Rattle.verdicts.proofs.Marks.{occ-none, occ-here, occ-apart}
-use Rattle.ledger.specs.Ledger.{Loan, put}
+use Rattle.verdicts.proofs.MetRecords.{occ-none, occ-here, occ-apart}
+use Rattle.ledger.specs.Ledger.{Entry, put}
 
 -- ---- the numbers from one on
 
@@ -42,17 +42,17 @@ occ-within i (suc m) x h k = go (ℕ-discrete x i) (occ-within (suc i) m x)
 
 -- ---- the ledger's map
 
-pub put-same : (a : ℕ) (o : Option Loan) (f : ℕ → Option Loan) → put a o f a ≡ o
+pub put-same : (a : ℕ) (o : Option Entry) (f : ℕ → Option Entry) → put a o f a ≡ o
 unfolding put
 put-same a o f = rw (eq-eqb a a refl)
 
-pub put-other : (a x : ℕ) (o : Option Loan) (f : ℕ → Option Loan) → x ≢ a → put a o f x ≡ f x
+pub put-other : (a x : ℕ) (o : Option Entry) (f : ℕ → Option Entry) → x ≢ a → put a o f x ≡ f x
 unfolding put
 put-other a x o f ne = rw (ne-eqb x a ne)
 
-module _ (base stride n j : ℕ) (some-stride : 0 < stride) (o : Option Loan) (f : ℕ → Option Loan) where
+module _ (base stride n j : ℕ) (some-stride : 0 < stride) (o : Option Entry) (f : ℕ → Option Entry) where
   -- what holds of the new entry and of each other one
-  pub at-put : (P : ℕ → Option Loan → Type 0) → P j o → ((i : ℕ) → i < n → i ≢ j → P i (f (placeAddress base stride i)))
+  pub at-put : (P : ℕ → Option Entry → Type 0) → P j o → ((i : ℕ) → i < n → i ≢ j → P i (f (placeAddress base stride i)))
       → (i : ℕ) → i < n → P i (put (placeAddress base stride j) o f (placeAddress base stride i))
   at-put P here there i h = go (ℕ-discrete i j)
     where

@@ -12,23 +12,22 @@ use Rattle.chunks.specs.Chunk.{grantFill, chunkOf, freeChunk, grantedChunk, tag
 use Rattle.chunks.specs.Judge.{freeVerdict, zoneVerdict, sizedVerdict, allocatedVerdict}
 use Rattle.chunks.specs.declared.chunk.Grant.the-variants as grant
 use Rattle.sheet.specs.Areas.{Areas}
-use Rattle.area.specs.Record.{stamped, recordWord}
-use Rattle.sheet.specs.Fields.{fieldIs, shaped, sheetOf}
+use Rattle.area.specs.Record.{recordBytes, withNext, stamped, recordWord}
+use Rattle.sheet.specs.Fields.{fieldIs, shaped, sheetOf, sheetBytes, withHead}
 use Rattle.sheet.specs.Limits.{sizesLawful, basesLawful, lawful}
 use Rattle.sheet.specs.Opening.{measured, numbered, openedOf}
 use Rattle.area.specs.Place.{placeOf}
-use Rattle.layout.specs.Layout.{linkTo, recordBytes, laidAreas, layOutPlan, layOutOf}
-use Rattle.sheet.specs.Fields.{sheetBytes}
+use Rattle.layout.specs.Layout.{linkTo, laidAreas, layOutPlan, layOutOf}
 use Rattle.sheet.specs.Geometry.{laidSheet}
 use Rattle.allocation.specs.Allocate.{takenChunk, takenHead, takenOf, allocatePlan, grantedAreas, allocateOf}
-use Rattle.holding.specs.Holding.{heldChunk, heldAt, heldOf}
+use Rattle.holding.specs.Holding.{heldChunk, heldOf}
 use Rattle.holding.specs.Free.{freePlan, freedAreas, freeOf}
 use Rattle.holding.specs.Store.{storePlan, storedAreas, storeOf}
 use Rattle.tags.specs.declared.refusal.Refusal.the-variants.{NoSuchBuffer, NoRoom, BadSize, OtherGrant}
 use Rattle.tags.specs.Refusal.{done}
 use Rattle.tags.specs.declared.refusal.Answer.the-variants as answer
 use Rattle.tags.specs.declared.refusal.Answer.{Answer}
-use Rattle.ledger.specs.Ledger.{Call, allocate, free, store, resultOf, put, World, opened, run, Sound}
+use Rattle.ledger.specs.Ledger.{stampOf, Call, allocate, free, store, resultOf, put, RunState, begun, run, Sound}
 use Rattle.ledger.proofs.Theorem.{theorem}
 
 -- the areas before, of the lengths that lay out asks for
@@ -41,37 +40,37 @@ unfolding areas₀ layOutPlan layOutOf measured numbered lawful sizesLawful base
 laid₀ = refl
 
 -- what a list of calls leaves, and what a call then answers
-world₀ : List Call → World
-world₀ calls = run 8 calls (opened (layOutOf areas₀ 64 4096 8192 8 2 .areas))
+state₀ : List Call → RunState
+state₀ calls = run 8 calls (begun (layOutOf areas₀ 64 4096 8192 8 2 .areas))
 
 answer₀ : List Call → Call → Answer
-answer₀ calls call = resultOf call (world₀ calls .areas) .answer
+answer₀ calls call = resultOf call (state₀ calls .areas) .answer
 
 -- a grant of 5 bytes, two bytes stored from offset 1 on, a store past the 5 bytes, and a whole grant
 calls₀ : List Call
-calls₀ = allocate (grant.Sized 5) 1 7 ∷ store 4096 1 (17 ∷ 18 ∷ []) ∷ store 4096 4 (17 ∷ 18 ∷ []) ∷ allocate grant.Whole 2 7 ∷ []
+calls₀ = allocate (grant.Sized 5) (stampOf 1 7) ∷ store 4096 1 (17 ∷ 18 ∷ []) ∷ store 4096 4 (17 ∷ 18 ∷ []) ∷ allocate grant.Whole (stampOf 2 7) ∷ []
 
 -- then the first buffer is given back
 calls₁ : List Call
-calls₁ = allocate (grant.Sized 5) 1 7 ∷ allocate grant.Whole 2 7 ∷ free 4096 (grant.Sized 5) 3 7 ∷ []
+calls₁ = allocate (grant.Sized 5) (stampOf 1 7) ∷ allocate grant.Whole (stampOf 2 7) ∷ free 4096 (grant.Sized 5) (stampOf 3 7) ∷ []
 
 -- what is evaluated: both are out, the first with the bytes stored between those of the fill; there is no room for another; a free with another grant is
 -- refused; after a free the buffer isn't out, and it is the one that is granted next
 record Evaluated : Type 0 where
-  first : world₀ calls₀ .ledger .out 4096 ≡ some (record { grant = grant.Sized 5; client = 0xba ∷ 17 ∷ 18 ∷ 0xfe ∷ 0xba ∷ [] })
-  second : world₀ calls₀ .ledger .out 4120 ≡ some (record { grant = grant.Whole; client = repeated 8 grantFill })
-  granted : world₀ calls₀ .ledger .allocations ≡ 2
-  none-freed : world₀ calls₀ .ledger .frees ≡ 0
-  no-room : answer₀ calls₀ (allocate (grant.Sized 1) 4 7) ≡ answer.Refused NoRoom
-  too-large : answer₀ calls₀ (allocate (grant.Sized 9) 4 7) ≡ answer.Refused BadSize
-  other-grant : answer₀ calls₀ (free 4096 (grant.Sized 6) 4 7) ≡ answer.Refused OtherGrant
-  no-buffer : answer₀ calls₀ (free 4097 (grant.Sized 5) 4 7) ≡ answer.Refused NoSuchBuffer
-  back : world₀ calls₁ .ledger .out 4096 ≡ none
-  freed : world₀ calls₁ .ledger .frees ≡ 1
-  next : answer₀ calls₁ (allocate (grant.Sized 8) 4 7) ≡ answer.Value 4096
+  first : state₀ calls₀ .ledger .out 4096 ≡ some (record { grant = grant.Sized 5; client = 0xba ∷ 17 ∷ 18 ∷ 0xfe ∷ 0xba ∷ [] })
+  second : state₀ calls₀ .ledger .out 4120 ≡ some (record { grant = grant.Whole; client = repeated 8 grantFill })
+  granted : state₀ calls₀ .ledger .allocations ≡ 2
+  none-freed : state₀ calls₀ .ledger .frees ≡ 0
+  no-room : answer₀ calls₀ (allocate (grant.Sized 1) (stampOf 4 7)) ≡ answer.Refused NoRoom
+  too-large : answer₀ calls₀ (allocate (grant.Sized 9) (stampOf 4 7)) ≡ answer.Refused BadSize
+  other-grant : answer₀ calls₀ (free 4096 (grant.Sized 6) (stampOf 4 7)) ≡ answer.Refused OtherGrant
+  no-buffer : answer₀ calls₀ (free 4097 (grant.Sized 5) (stampOf 4 7)) ≡ answer.Refused NoSuchBuffer
+  back : state₀ calls₁ .ledger .out 4096 ≡ none
+  freed : state₀ calls₁ .ledger .frees ≡ 1
+  next : answer₀ calls₁ (allocate (grant.Sized 8) (stampOf 4 7)) ≡ answer.Value 4096
 
 evaluated : Evaluated
-unfolding areas₀ world₀ answer₀ calls₀ calls₁ run put layOutPlan layOutOf lawful sizesLawful basesLawful laidAreas sheetBytes recordBytes flat linkTo part number bytesOf numberAt repeated differenceFrom tagOf patternWord patternOf decodedOf chunkOf freeChunk grantedChunk tagAt freeVerdict zoneVerdict sizedVerdict allocatedVerdict stamped fieldIs shaped sheetOf measured numbered openedOf placeOf recordWord takenChunk takenHead takenOf allocatePlan grantedAreas allocateOf heldChunk heldAt heldOf freePlan freedAreas freeOf storePlan storedAreas storeOf
+unfolding areas₀ state₀ answer₀ calls₀ calls₁ run put layOutPlan layOutOf lawful sizesLawful basesLawful laidAreas sheetBytes recordBytes flat linkTo part number bytesOf numberAt repeated differenceFrom tagOf patternWord patternOf decodedOf chunkOf freeChunk grantedChunk tagAt freeVerdict zoneVerdict sizedVerdict allocatedVerdict withNext stamped fieldIs shaped sheetOf withHead measured numbered openedOf placeOf recordWord takenChunk takenHead takenOf allocatePlan grantedAreas allocateOf heldChunk heldOf freePlan freedAreas freeOf storePlan storedAreas storeOf
 evaluated = record {
   first = refl;
   second = refl;
@@ -87,6 +86,6 @@ evaluated = record {
 }
 
 -- the claim holds of this image and these calls
-sound₀ : Sound (laidSheet 64 4096 8192 8 2) (world₀ calls₀)
-unfolding world₀
+sound₀ : Sound (laidSheet 64 4096 8192 8 2) (state₀ calls₀)
+unfolding state₀
 sound₀ = theorem areas₀ 64 4096 8192 8 2 (lit< tt) laid₀ calls₀

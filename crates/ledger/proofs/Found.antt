@@ -19,20 +19,20 @@ use Rattle.chunks.specs.declared.chunk.Grant.{Grant}
 use Rattle.chunks.specs.declared.chunk.Grant.the-variants as grant
 use Rattle.tags.specs.declared.verdict.Verdict.{Verdict}
 use Rattle.tags.proofs.Tags.{statePattern, tag-pattern}
-use Rattle.sheet.specs.Areas.{Areas}
-use Rattle.sheet.specs.Geometry.{bufferAddress, recordAddress}
+use Rattle.sheet.specs.Areas.{Areas, Image, imageOf}
+use Rattle.sheet.specs.Geometry.{headed, bufferAddress, recordAddress}
 use Rattle.area.specs.Record.{addressWord}
-use Rattle.verdicts.specs.Chain.{occ}
-use Rattle.verdicts.specs.Pairing.{namers, theOne, ownOf}
-use Rattle.verdicts.specs.Judge.{chainedVerdict, ownedVerdict, judged, imageChain, verdictOf}
+use Rattle.verdicts.specs.Chain.{occ, chainOf}
+use Rattle.verdicts.specs.Pairing.{namers, theOne, ownIn, ownOf}
+use Rattle.verdicts.specs.Judge.{standing, chainedVerdict, ownedVerdict, verdictOf}
 use Rattle.sheet.specs.declared.geometry.Sheet.{Sheet}
 use Rattle.tags.specs.declared.ending.Ending.the-variants.{End}
 use Rattle.verdicts.specs.declared.pairing.Own.the-variants.{One}
 use Rattle.area.proofs.Places.{address-one}
 use Rattle.verdicts.proofs.Chains.{linked-chain}
-use Rattle.ledger.specs.Ledger.{Loan, headed, asGranted, asNoted, allocatedOne, foundAllocated}
-use Rattle.ledger.proofs.Chunks.{chunkFor, stateFor, LawfulLoan, tag-for, granted-verdict, free-sound}
-use Rattle.ledger.proofs.State.{Laid, outs, Holds, record-fits, records-some, chunk-some, once}
+use Rattle.ledger.specs.Ledger.{Entry, asGranted, asEntered, allocatedOne, foundAllocated}
+use Rattle.ledger.proofs.Chunks.{chunkFor, stateFor, LawfulEntry, tag-for, granted-verdict, free-sound}
+use Rattle.ledger.proofs.Invariant.{Laid, outs, Invariant, record-fits, records-some, chunk-some, once}
 
 -- ---- own records
 
@@ -55,14 +55,14 @@ namers-one word (suc m) a i l e h = go (ℕ-discrete i m) (namers-one word m a i
 -- ---- the tag and the verdict of a chunk as the ledger has it
 
 module _ (size a : ℕ) (few : size ≤ 4096) (word : a < 4294967296) where
-  pub first-for : (o : Option Loan) → LawfulLoan size o → tagAt (chunkFor size a o) .t0 ≡ a
+  pub first-for : (o : Option Entry) → LawfulEntry size o → tagAt (chunkFor size a o) .t0 ≡ a
   unfolding tagOf
   first-for o l = ap (λ (t : Tag). t .t0) (tag-for size a few word o l)
 
-  pub pattern-for : (o : Option Loan) → LawfulLoan size o → patternOf (tagAt (chunkFor size a o)) ≡ statePattern (stateFor o)
+  pub pattern-for : (o : Option Entry) → LawfulEntry size o → patternOf (tagAt (chunkFor size a o)) ≡ statePattern (stateFor o)
   pattern-for o l = ap patternOf (tag-for size a few word o l) ∙ tag-pattern a (stateFor o)
 
-  owned-for : (o : Option Loan) → LawfulLoan size o → (k : ℕ) → k + outs o ≡ 1 → ownedVerdict (chunkFor size a o) a (not (eqb k 0)) false ≡ asNoted o
+  owned-for : (o : Option Entry) → LawfulEntry size o → (k : ℕ) → k + outs o ≡ 1 → ownedVerdict (chunkFor size a o) a (standing (not (eqb k 0)) false) ≡ asEntered o
   unfolding ownedVerdict chainedVerdict
   owned-for none l k e =
       let q : k ≡ 1 = omega arith in
@@ -76,36 +76,40 @@ granted-sound : (q : Grant) → isFault (verdictNumber (asGranted q)) ≡ false
 granted-sound grant.Whole = refl
 granted-sound (grant.Sized s) = refl
 
-pub noted-sound : (o : Option Loan) → isFault (verdictNumber (asNoted o)) ≡ false
-noted-sound none = refl
-noted-sound (some o) = granted-sound (o .grant)
+pub entered-sound : (o : Option Entry) → isFault (verdictNumber (asEntered o)) ≡ false
+entered-sound none = refl
+entered-sound (some o) = granted-sound (o .grant)
 
-module _ (g : Sheet) (laid : Laid g) {head : ℕ} {a : Areas} {out : ℕ → Option Loan} {chain : List ℕ} (v : Holds g head a out chain) where
-  pub own-is : (i : ℕ) → i < g .count → ownOf (a .records) (g .count) (bufferAddress g i) ≡ One i
-  unfolding ownOf
+module _ (g : Sheet) (laid : Laid g) {head : ℕ} {a : Areas} {out : ℕ → Option Entry} {chain : List ℕ} (v : Invariant g head a out chain) where
+  -- the image
+  abbrev pub image : Image
+  image = imageOf a (headed g head)
+
+  pub own-is : (i : ℕ) → i < g .count → ownOf image i ≡ One i
+  unfolding ownIn
   own-is i h =
       ap theOne
       (namers-one (addressWord (a .records)) (g .count) (bufferAddress g i) i h (v .names i h)
       (λ j k ne e. ne (address-one (g .«heap_base») (g .chunk) j i (chunk-some g laid) (sym (v .names j k) ∙ e))))
 
-  pub chain-is : imageChain (headed g head) (a .records) ≡ record { met = chain; ending = End }
-  chain-is = linked-chain (a .records) (g .«record_base») (g .count) (records-some g laid) head chain (v .linked) (once g laid v)
+  pub chain-is : chainOf image ≡ record { met = chain; ending = End }
+  chain-is = linked-chain (headed g head) (a .records) (records-some g laid) chain (v .linked) (once g laid v)
 
-  pub verdict-is : (i : ℕ) → i < g .count → verdictOf (headed g head) (a .heap) (a .records) i ≡ asNoted (out (bufferAddress g i))
-  unfolding verdictOf judged
+  pub verdict-is : (i : ℕ) → i < g .count → verdictOf image i ≡ asEntered (out (bufferAddress g i))
+  unfolding verdictOf
   verdict-is i h =
       rw (own-is i h, chain-is, v .chunks i h)
       (owned-for (g .size) (recordAddress g i) (laid .law .sizes .most) (record-fits g laid i h)
-      (out (bufferAddress g i)) (v .loans i h) (occ i chain) (v .each i h))
+      (out (bufferAddress g i)) (v .entries i h) (occ i chain) (v .each i h))
 
 granted-one : (q : Grant) → allocatedOne (asGranted q) ≡ 1
 granted-one grant.Whole = refl
 granted-one (grant.Sized s) = refl
 
-noted-one : (o : Option Loan) → allocatedOne (asNoted o) ≡ outs o
-noted-one none = refl
-noted-one (some o) = granted-one (o .grant)
+entered-one : (o : Option Entry) → allocatedOne (asEntered o) ≡ outs o
+entered-one none = refl
+entered-one (some o) = granted-one (o .grant)
 
 -- the number found allocated is the number out
-pub found-count : (v : ℕ → Verdict) (o : ℕ → Option Loan) (n : ℕ) → ((i : ℕ) → i < n → v i ≡ asNoted (o i)) → foundAllocated v n ≡ total (λ i. outs (o i)) n
-found-count v o n h = total-same (λ i. allocatedOne (v i)) (λ i. outs (o i)) n (λ i l. ap allocatedOne (h i l) ∙ noted-one (o i))
+pub found-count : (v : ℕ → Verdict) (o : ℕ → Option Entry) (n : ℕ) → ((i : ℕ) → i < n → v i ≡ asEntered (o i)) → foundAllocated v n ≡ total (λ i. outs (o i)) n
+found-count v o n h = total-same (λ i. allocatedOne (v i)) (λ i. outs (o i)) n (λ i l. ap allocatedOne (h i l) ∙ entered-one (o i))

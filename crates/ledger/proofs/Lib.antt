@@ -1,7 +1,6 @@
 pub mod Chunks
-pub mod Sheets
 pub mod Counts
-pub mod State
+pub mod Invariant
 pub mod Found
 pub mod Calls
 pub mod Keeps

@@ -1,35 +1,33 @@
 -- The areas as they are laid out have the invariant. Assumes nothing.
-use mathlib.Core.Path.{_≡_, refl, sym, ap, _∙_, subst}
+use mathlib.Core.Path.{_≡_, refl, sym, _∙_, subst}
 use mathlib.Core.Bool.{Bool, true, false, cond}
-use mathlib.Core.List.{List, _++_}
-use mathlib.Core.Option.{none, some}
-use Prim.Native.Nat.{ℕ, zero, suc, _+_, _*_, _≤_, _<_}
+use mathlib.Core.Option.{none}
+use Prim.Native.Nat.{ℕ, zero, suc, _+_, _<_}
 use native.Mathlib.Decide.{decLt}
 use native.Mathlib.Omega.{arith}
 use lib.Dec.{eqb, lit<}
-use lib.ListN.{length, replicate, length-append}
-use Rattle.words.specs.Word.{part, flat, number, bytesOf, numberAt}
-use Rattle.words.proofs.Numbers.{length-bytesOf, number-back}
-use Rattle.words.proofs.Parts.{part-part, part-left, part-right, part-all, part-front, length-flat, part-flat}
-use Rattle.sheet.specs.Areas.{Areas, Result, refusedWith}
-use Rattle.sheet.specs.Geometry.{bufferAddress}
-use Rattle.sheet.specs.Limits.{lawful}
-use Rattle.sheet.specs.Opening.{lengthsRight, measured, numbered, byOpened}
-use Rattle.area.specs.Record.{recordWord, addressWord, nextWord}
-use Rattle.layout.specs.Layout.{linkTo, recordBytes, laidAreas, layOutPlan, layOutOf}
-use Rattle.sheet.specs.Geometry.{laidSheet}
-use Rattle.sheet.specs.declared.geometry.Sheet.{Sheet}
+use lib.ListN.{length}
+use Rattle.words.specs.Word.{flat}
+use Rattle.words.proofs.Parts.{length-flat, part-flat}
+use Rattle.tags.specs.Refusal.{done}
 use Rattle.tags.specs.declared.refusal.Refusal.the-variants.{BadSheet, BadNumber, BadLength}
-use Rattle.sheet.specs.declared.opening.Opened.the-variants as opened
-use Rattle.sheet.specs.declared.opening.Opened.the-variants as opened
 use Rattle.tags.specs.declared.refusal.Answer.{Answer}
 use Rattle.tags.specs.declared.refusal.Answer.the-variants.{Refused}
-use Rattle.tags.specs.Refusal.{done}
+use Rattle.area.specs.Record.{recordSize, nextAt, bufferAt, addressWord, nextWord}
+use Rattle.area.proofs.Records.{flat-word, whole-next, whole-name}
+use Rattle.sheet.specs.Areas.{Areas, Result, result, refusedWith}
+use Rattle.sheet.specs.Fields.{sheetLength}
+use Rattle.sheet.specs.Geometry.{laidSheet, bufferAddress}
+use Rattle.sheet.specs.Limits.{lawful}
+use Rattle.sheet.specs.Opening.{lengthsRight, measured, numbered, byOpened}
+use Rattle.sheet.specs.declared.geometry.Sheet.{Sheet}
+use Rattle.sheet.specs.declared.opening.Opened.the-variants as opened
 use Rattle.sheet.proofs.Sheets.{lawful-known, buffer-word}
-use Rattle.layout.proofs.Layouts.{link-in, link-out, length-recordBytes, laid-chunk, laid-long}
+use Rattle.layout.specs.Layout.{laidChunk, linkTo, laidRecord, laidAreas, layOutPlan, layOutOf}
+use Rattle.layout.proofs.Layouts.{laid-chunk-long, laid-record-long, link-in, link-out}
 use Rattle.verdicts.proofs.Chains.{Linked}
 use Rattle.ledger.proofs.Counts.{range, occ-within, occ-above}
-use Rattle.ledger.proofs.State.{Laid, Holds, record-fits, chunk-some}
+use Rattle.ledger.proofs.Invariant.{Laid, Invariant, record-fits, chunk-some}
 
 module _ (g : Sheet) (laid : Laid g) where
   link-fits : (i : ℕ) → linkTo g i < 4294967296
@@ -39,48 +37,17 @@ module _ (g : Sheet) (laid : Laid g) where
       go (yes h) = omega (arith, link-in g i h, record-fits g laid i h)
       go (no h) = omega (arith, link-out g i (omega arith))
 
-  -- a word of a record as laid
-  laid-word : (j o : ℕ) → j < g .count → o + 4 ≤ 96 → recordWord (flat (g .count) (recordBytes g)) j o ≡ number (part (recordBytes g j) o 4)
-  unfolding recordWord numberAt
-  laid-word j o h k =
-      ap number
-      (sym (part-part (flat (g .count) (recordBytes g)) (j * 96) 96 o 4 k)
-      ∙ ap (λ (x : List ℕ). part x o 4) (part-flat 96 (recordBytes g) (length-recordBytes g) (g .count) j h))
-
-  -- the first two words of a record
-  first-two : (x y : ℕ) (p q r : List ℕ) (o w : ℕ) → part (bytesOf 4 x ++ bytesOf 4 y) o 4 ≡ bytesOf 4 w → o + 4 ≤ 8
-      → part (bytesOf 4 x ++ bytesOf 4 y ++ p ++ q ++ r) o 4 ≡ bytesOf 4 w
-  first-two x y p q r o w e h =
-      let a = bytesOf 4 x ++ bytesOf 4 y in
-      let l : length a ≡ 8 = simp (length-append, length-bytesOf) in
-      part-left (a ++ p ++ q) r o 4 (simp (length-append, length-bytesOf) (omega arith))
-      ∙ part-left (a ++ p) q o 4 (simp (length-append, length-bytesOf) (omega arith))
-      ∙ part-left a p o 4 (omega arith)
-      ∙ e
-
-  laid-next : (j : ℕ) → j < g .count → nextWord (flat (g .count) (recordBytes g)) j ≡ linkTo g (suc j)
-  unfolding recordBytes
+  laid-next : (j : ℕ) → j < g .count → nextWord (flat (g .count) (laidRecord g)) j ≡ linkTo g (suc j)
   laid-next j h =
-      let x = linkTo g (suc j) in
-      let y = bufferAddress g j in
-      laid-word j 0 h (omega arith)
-      ∙ ap number
-      (first-two x y (bytesOf 4 0) (bytesOf 4 (g .cache)) (replicate 80 0) 0 x (part-front (bytesOf 4 x) (bytesOf 4 y) 4 (length-bytesOf 4 x)) (omega arith))
-      ∙ number-back 4 x (link-fits (suc j))
+      flat-word (laidRecord g) (laid-record-long g) (g .count) j nextAt h (omega arith)
+      ∙ whole-next (linkTo g (suc j)) (bufferAddress g j) (g .cache) (link-fits (suc j))
 
-  laid-name : (j : ℕ) → j < g .count → addressWord (flat (g .count) (recordBytes g)) j ≡ bufferAddress g j
-  unfolding recordBytes
+  laid-name : (j : ℕ) → j < g .count → addressWord (flat (g .count) (laidRecord g)) j ≡ bufferAddress g j
   laid-name j h =
-      let x = linkTo g (suc j) in
-      let y = bufferAddress g j in
-      laid-word j 4 h (omega arith)
-      ∙ ap number
-      (first-two x y (bytesOf 4 0) (bytesOf 4 (g .cache)) (replicate 80 0) 4 y
-      (part-right (bytesOf 4 x) (bytesOf 4 y) 4 0 4 (omega (arith, length-bytesOf 4 x)) ∙ part-all (bytesOf 4 y) 4 (length-bytesOf 4 y))
-      (omega arith))
-      ∙ number-back 4 y (omega (arith, buffer-word g (laid .law) j h, chunk-some g laid))
+      flat-word (laidRecord g) (laid-record-long g) (g .count) j bufferAt h (omega arith)
+      ∙ whole-name (linkTo g (suc j)) (bufferAddress g j) (g .cache) (omega (arith, buffer-word g (laid .law) j h, chunk-some g laid))
 
-  laid-linked : (i m : ℕ) → i + m ≡ g .count → Linked (nextWord (flat (g .count) (recordBytes g))) (g .«record_base») (g .count) (linkTo g i) (range i m)
+  laid-linked : (i m : ℕ) → i + m ≡ g .count → Linked (nextWord (flat (g .count) (laidRecord g))) (g .«record_base») (g .count) (linkTo g i) (range i m)
   unfolding Linked range
   laid-linked i zero e = link-out g i (omega arith)
   laid-linked i (suc m) e =
@@ -88,25 +55,25 @@ module _ (g : Sheet) (laid : Laid g) where
         h,
         (
           link-in g i h,
-          subst (λ (x : ℕ). Linked (nextWord (flat (g .count) (recordBytes g))) (g .«record_base») (g .count) x (range (suc i) m)) (sym (laid-next i h))
+          subst (λ (x : ℕ). Linked (nextWord (flat (g .count) (laidRecord g))) (g .«record_base») (g .count) x (range (suc i) m)) (sym (laid-next i h))
               (laid-linked (suc i) m (omega arith)),
         ),
       )
 
-  pub laid-holds : g .head ≡ g .«record_base» → Holds g (g .head) (laidAreas g) (λ x. none) (range 0 (g .count))
+  pub laid-invariant : g .head ≡ g .«record_base» → Invariant g (g .head) (laidAreas g) (λ x. none) (range 0 (g .count))
   unfolding laidAreas
-  laid-holds e = record {
+  laid-invariant e = record {
     sheetIs = refl;
-    heapLong = length-flat (g .chunk) (laid-chunk g) (laid-long g (laid .law)) (g .count);
-    recordsLong = length-flat 96 (recordBytes g) (length-recordBytes g) (g .count);
-    linked = subst (λ (x : ℕ). Linked (nextWord (flat (g .count) (recordBytes g))) (g .«record_base») (g .count) x (range 0 (g .count)))
+    heapLong = length-flat (g .chunk) (laidChunk g) (laid-chunk-long g (laid .law)) (g .count);
+    recordsLong = length-flat recordSize (laidRecord g) (laid-record-long g) (g .count);
+    linked = subst (λ (x : ℕ). Linked (nextWord (flat (g .count) (laidRecord g))) (g .«record_base») (g .count) x (range 0 (g .count)))
         (link-in g 0 (laid .law .sizes .some) ∙ omega arith)
         (laid-linked 0 (g .count) (omega arith));
     each = λ j h. omega (arith, occ-within 0 (g .count) j (omega arith) (omega arith));
     only = λ j h. occ-above 0 (g .count) j (omega arith);
-    chunks = λ j h. part-flat (g .chunk) (laid-chunk g) (laid-long g (laid .law)) (g .count) j h;
+    chunks = λ j h. part-flat (g .chunk) (laidChunk g) (laid-chunk-long g (laid .law)) (g .count) j h;
     names = laid-name;
-    loans = λ j h. tt;
+    entries = λ j h. tt;
     stray = λ x h. refl;
   }
 
@@ -114,7 +81,7 @@ module _ (g : Sheet) (laid : Laid g) where
 
 three : (p q r : Bool) (a : Areas) (g : Sheet) →
     let o = cond p (cond q (cond r (opened.Sheet g) (opened.Refused BadLength)) (opened.Refused BadNumber)) (opened.Refused BadSheet) in
-    let laid = byOpened {A = Result Answer} o (λ s. record { answer = done; areas = laidAreas s }) (λ why. refusedWith (Refused why) a) in
+    let laid = byOpened {A = Result Answer} o (λ s. result done (laidAreas s)) (λ why. refusedWith (Refused why) a) in
     laid .answer ≡ done → (q ≡ true) × (laid .areas ≡ laidAreas g)
 three true true true a g e = (refl, refl)
 three true true false a g e = absurd (let z : _≡_ {A = ℕ} 0 1 = cc in omega arith)
@@ -126,7 +93,7 @@ pub accepted : (a : Areas) (cache heap records size n : ℕ) → layOutOf a cach
     → (lawful (laidSheet cache heap records size n) ≡ true) × (layOutOf a cache heap records size n .areas ≡ laidAreas (laidSheet cache heap records size n))
 unfolding layOutOf layOutPlan numbered measured
 accepted a cache heap records size n e =
-    three (eqb (length (a .sheet)) 48) (lawful (laidSheet cache heap records size n))
+    three (eqb (length (a .sheet)) sheetLength) (lawful (laidSheet cache heap records size n))
     (lengthsRight (laidSheet cache heap records size n) (length (a .heap)) (length (a .records))) a (laidSheet cache heap records size n) e
 
 pub laid-known : (cache heap records size n : ℕ) → cache < 4294967296 → lawful (laidSheet cache heap records size n) ≡ true

@@ -11,12 +11,12 @@ use Rattle.words.specs.Word.{part}
 use Rattle.tags.specs.Verdict.{verdictNumber, isFault}
 use Rattle.chunks.specs.Chunk.{lawfulSize}
 use Rattle.chunks.specs.declared.chunk.Grant.{Grant}
+use Rattle.area.specs.declared.record.Stamp.{Stamp}
 use Rattle.sheet.specs.Areas.{Areas, Result}
-use Rattle.sheet.specs.Geometry.{bufferAddress}
-use Rattle.verdicts.specs.Chain.{Chain, occ}
+use Rattle.sheet.specs.Geometry.{laidSheet, headed, bufferAddress}
+use Rattle.verdicts.specs.Chain.{Chain, occ, chainOf}
 use Rattle.verdicts.specs.Pairing.{ownOf}
-use Rattle.verdicts.specs.Judge.{imageChain, verdictOf}
-use Rattle.sheet.specs.Geometry.{laidSheet}
+use Rattle.verdicts.specs.Judge.{verdictOf}
 use Rattle.allocation.specs.Allocate.{allocateOf}
 use Rattle.holding.specs.Show.{shownOf}
 use Rattle.sheet.specs.declared.geometry.Sheet.{Sheet}
@@ -25,39 +25,39 @@ use Rattle.tags.specs.declared.refusal.Refusal.the-variants.{NoRoom}
 use Rattle.tags.specs.declared.refusal.Answer.{Answer}
 use Rattle.tags.specs.declared.refusal.Answer.the-variants as answer
 use Rattle.holding.specs.declared.show.Shown.the-variants as shown
-use Rattle.verdicts.proofs.Marks.{occ-none}
-use Rattle.ledger.specs.Ledger.{Loan, World, headed, timesMet, isOut, Sound, Claim}
-use Rattle.ledger.proofs.State.{Laid, outs, Holds, opens}
-use Rattle.ledger.proofs.Found.{noted-sound, own-is, chain-is, verdict-is, found-count}
+use Rattle.verdicts.proofs.MetRecords.{occ-none}
+use Rattle.ledger.specs.Ledger.{Entry, RunState, imageAt, timesMet, isOut, Sound, Claim}
+use Rattle.ledger.proofs.Invariant.{Laid, outs, Invariant, opens}
+use Rattle.ledger.proofs.Found.{entered-sound, image, own-is, chain-is, verdict-is, found-count}
 use Rattle.ledger.proofs.Calls.{none-out, taken-below, taken-in, allocate-none, allocate-some, show-out, show-in, client-is}
 use Rattle.ledger.proofs.Start.{accepted, laid-known}
-use Rattle.ledger.proofs.Always.{Fine, by-address, run-fine, start-fine}
+use Rattle.ledger.proofs.Always.{RunInvariant, by-address, run-keeps, start-keeps}
 
-times-met : (o : Option Loan) (k : ℕ) → k + outs o ≡ 1 → k ≡ timesMet o
+times-met : (o : Option Entry) (k : ℕ) → k + outs o ≡ 1 → k ≡ timesMet o
 times-met none k e = omega arith
 times-met (some o) k e = omega arith
 
-is-out : (o : Option Loan) → outs o ≡ 1 → isOut o ≡ true
+is-out : (o : Option Entry) → outs o ≡ 1 → isOut o ≡ true
 is-out none e = absurd (omega arith)
 is-out (some o) e = refl
 
 -- what is not out is not out
-not-out : (o : Option Loan) → o ≡ none → isOut o ≡ true → ⊥
+not-out : (o : Option Entry) → o ≡ none → isOut o ≡ true → ⊥
 not-out none e f = let z : _≡_ {A = ℕ} 0 1 = cc in omega arith
 not-out (some o) e f = let z : _≡_ {A = ℕ} 0 1 = cc in omega arith
 
-not-loan : (o : Option Loan) (l : Loan) → o ≡ none → o ≡ some l → ⊥
-not-loan o l e f = let z : _≡_ {A = ℕ} 0 1 = cc in omega arith
+not-entry : (o : Option Entry) (l : Entry) → o ≡ none → o ≡ some l → ⊥
+not-entry o l e f = let z : _≡_ {A = ℕ} 0 1 = cc in omega arith
 
 module _ (g : Sheet) (laid : Laid g) where
   -- ---- each clause, from the invariant
 
-  module _ {head : ℕ} {a : Areas} {out : ℕ → Option Loan} {chain : List ℕ} (v : Holds g head a out chain) where
-    met-is : imageChain (headed g head) (a .records) .met ≡ chain
+  module _ {head : ℕ} {a : Areas} {out : ℕ → Option Entry} {chain : List ℕ} (v : Invariant g head a out chain) where
+    met-is : chainOf (image g laid v) .met ≡ chain
     met-is = ap (λ (c : Chain). c .met) (chain-is g laid v)
 
-    no-fault : (i : ℕ) → i < g .count → isFault (verdictNumber (verdictOf (headed g head) (a .heap) (a .records) i)) ≡ false
-    no-fault i h = rw (verdict-is g laid v i h) (noted-sound (out (bufferAddress g i)))
+    no-fault : (i : ℕ) → i < g .count → isFault (verdictNumber (verdictOf (image g laid v) i)) ≡ false
+    no-fault i h = rw (verdict-is g laid v i h) (entered-sound (out (bufferAddress g i)))
 
     -- what is out is a buffer
     out-buffer : (x : ℕ) → isOut (out x) ≡ true → (i : ℕ) × ((i < g .count) × (x ≡ bufferAddress g i))
@@ -67,53 +67,53 @@ module _ (g : Sheet) (laid : Laid g) where
         (λ j h e f. (j, (h, refl)))
         (λ j h o e f. (j, (h, refl)))
 
-    times : (i : ℕ) → i < g .count → occ i (imageChain (headed g head) (a .records) .met) ≡ timesMet (out (bufferAddress g i))
+    times : (i : ℕ) → i < g .count → occ i (chainOf (image g laid v) .met) ≡ timesMet (out (bufferAddress g i))
     times i h = rw met-is (times-met (out (bufferAddress g i)) (occ i chain) (v .each i h))
 
-    only-those : (j : ℕ) → occ j (imageChain (headed g head) (a .records) .met) ≢ 0
-        → (i : ℕ) × ((i < g .count) × ((ownOf (a .records) (g .count) (bufferAddress g i) ≡ One j) × (out (bufferAddress g i) ≡ none)))
+    only-those : (j : ℕ) → occ j (chainOf (image g laid v) .met) ≢ 0
+        → (i : ℕ) × ((i < g .count) × ((ownOf (image g laid v) i ≡ One j) × (out (bufferAddress g i) ≡ none)))
     only-those j ne = go (decLt j (g .count)) (rw met-is at ne)
       where
         go : Dec (j < g .count) → occ j chain ≢ 0
-            → (i : ℕ) × ((i < g .count) × ((ownOf (a .records) (g .count) (bufferAddress g i) ≡ One j) × (out (bufferAddress g i) ≡ none)))
+            → (i : ℕ) × ((i < g .count) × ((ownOf (image g laid v) i ≡ One j) × (out (bufferAddress g i) ≡ none)))
         go (yes h) m = (j, (h, (own-is g laid v j h, none-out (out (bufferAddress g j)) (omega (arith, v .each j h)))))
         go (no h) m = absurd (m (v .only j (omega arith)))
 
-    shows : (x : ℕ) (o : Loan) → out x ≡ some o
+    shows : (x : ℕ) (o : Entry) → out x ≡ some o
         → (at : ℕ) × ((len : ℕ) × ((shownOf a x ≡ shown.Client at len) × (part (a .heap) at len ≡ o .client)))
     shows x o =
         by-address g laid out
-        (λ y. (o : Loan) → out y ≡ some o → (at : ℕ) × ((len : ℕ) × ((shownOf a y ≡ shown.Client at len) × (part (a .heap) at len ≡ o .client))))
-        (λ y e o f. absurd (not-loan (out y) o (v .stray y e) f))
-        (λ j h e o f. absurd (not-loan (out (bufferAddress g j)) o e f))
+        (λ y. (o : Entry) → out y ≡ some o → (at : ℕ) × ((len : ℕ) × ((shownOf a y ≡ shown.Client at len) × (part (a .heap) at len ≡ o .client))))
+        (λ y e o f. absurd (not-entry (out y) o (v .stray y e) f))
+        (λ j h e o f. absurd (not-entry (out (bufferAddress g j)) o e f))
         (λ j h p e o f. (_, (_, (show-out g laid v j h o f, client-is g laid v j h o f))))
         x o
 
-  full : {head : ℕ} {a : Areas} {out : ℕ → Option Loan} (chain : List ℕ) → Holds g head a out chain → (q : Grant) (uptime thread : ℕ)
+  full : {head : ℕ} {a : Areas} {out : ℕ → Option Entry} (chain : List ℕ) → Invariant g head a out chain → (q : Grant) (t : Stamp)
       → lawfulSize (g .size) q ≡ true
-      → (allocateOf a q uptime thread .answer ≡ answer.Refused NoRoom) ↔ ((i : ℕ) → i < g .count → isOut (out (bufferAddress g i)) ≡ true)
-  full {out = out} [] v q uptime thread e = (
+      → (allocateOf a q t .answer ≡ answer.Refused NoRoom) ↔ ((i : ℕ) → i < g .count → isOut (out (bufferAddress g i)) ≡ true)
+  full {out = out} [] v q t e = (
     λ _ i h. is-out (out (bufferAddress g i)) (omega (arith, v .each i h, occ-none i)),
-    λ _. ap (λ (r : Result Answer). r .answer) (allocate-none g laid v q uptime thread e),
+    λ _. ap (λ (r : Result Answer). r .answer) (allocate-none g laid v q t e),
   )
-  full {out = out} (j ∷ js) v q uptime thread e = (
+  full {out = out} (j ∷ js) v q t e = (
     λ f. absurd
-        (let s = ap (λ (r : Result Answer). r .answer) (allocate-some g laid v q uptime thread e) in let z : _≡_ {A = ℕ} 0 1 = cc in omega arith),
+        (let s = ap (λ (r : Result Answer). r .answer) (allocate-some g laid v q t e) in let z : _≡_ {A = ℕ} 0 1 = cc in omega arith),
     λ f. absurd (not-out (out (bufferAddress g j)) (taken-in g laid v) (f j (taken-below g laid v))),
   )
 
-  accepts : {head : ℕ} {a : Areas} {out : ℕ → Option Loan} (chain : List ℕ) → Holds g head a out chain → (q : Grant) (uptime thread : ℕ)
-      → lawfulSize (g .size) q ≡ true → (allocateOf a q uptime thread .answer ≢ answer.Refused NoRoom)
-      → (i : ℕ) × ((i < g .count) × ((out (bufferAddress g i) ≡ none) × (allocateOf a q uptime thread .answer ≡ answer.Value (bufferAddress g i))))
-  accepts [] v q uptime thread e ne = absurd (ne (ap (λ (r : Result Answer). r .answer) (allocate-none g laid v q uptime thread e)))
-  accepts (j ∷ js) v q uptime thread e ne = (
+  accepts : {head : ℕ} {a : Areas} {out : ℕ → Option Entry} (chain : List ℕ) → Invariant g head a out chain → (q : Grant) (t : Stamp)
+      → lawfulSize (g .size) q ≡ true → (allocateOf a q t .answer ≢ answer.Refused NoRoom)
+      → (i : ℕ) × ((i < g .count) × ((out (bufferAddress g i) ≡ none) × (allocateOf a q t .answer ≡ answer.Value (bufferAddress g i))))
+  accepts [] v q t e ne = absurd (ne (ap (λ (r : Result Answer). r .answer) (allocate-none g laid v q t e)))
+  accepts (j ∷ js) v q t e ne = (
     j,
-    (taken-below g laid v, (taken-in g laid v, ap (λ (r : Result Answer). r .answer) (allocate-some g laid v q uptime thread e))),
+    (taken-below g laid v, (taken-in g laid v, ap (λ (r : Result Answer). r .answer) (allocate-some g laid v q t e))),
   )
 
-  pub sound : (w : World) → Fine g w → Sound g w
+  pub sound : (w : RunState) → RunInvariant g w → Sound g w
   sound w f =
-      let v = f .holds in
+      let v = f .invariant in
       let out = w .ledger .out in
       record {
         sheet = headed g (f .head);
@@ -122,13 +122,13 @@ module _ (g : Sheet) (laid : Laid g) where
         noFault = no-fault v;
         found = verdict-is g laid v;
         buffers = out-buffer v;
-        count = f .books
+        count = f .balance
             ∙ ap (λ (x : ℕ). w .ledger .frees + x)
             (sym
-            (found-count (verdictOf (headed g (f .head)) (w .areas .heap) (w .areas .records)) (λ i. out (bufferAddress g i)) (g .count)
+            (found-count (verdictOf (imageAt w (headed g (f .head)))) (λ i. out (bufferAddress g i)) (g .count)
             (verdict-is g laid v)));
         ends = ap (λ (c : Chain). c .ending) (chain-is g laid v);
-        meets = λ i h. (i, (own-is g laid v i h, times v i h));
+        ownMet = λ i h. (i, (own-is g laid v i h, times v i h));
         onlyThose = only-those v;
         shows = shows v;
         hides = λ i h e. show-in g laid v i h e;
@@ -142,4 +142,4 @@ theorem a cache heap records size n h e calls =
     let k = accepted a cache heap records size n e in
     let g = laidSheet cache heap records size n in
     let laid : Laid g = laid-known cache heap records size n h (k .0) in
-    rw (k .1) (sound g laid _ (run-fine g laid calls _ (start-fine g laid refl)))
+    rw (k .1) (sound g laid _ (run-keeps g laid calls _ (start-keeps g laid refl)))

@@ -17,13 +17,13 @@ use Rattle.chunks.specs.declared.chunk.Grant.the-variants as grant
 use Rattle.sheet.specs.Areas.{Areas, areas}
 use Rattle.area.specs.declared.place.Place.{Place}
 use Rattle.area.specs.declared.place.Place.the-variants as place
-use Rattle.verdicts.specs.Judge.{ownedVerdict}
+use Rattle.verdicts.specs.Judge.{standing, ownedVerdict}
 use Rattle.transactions.specs.Latest.{latestRow, firstBest}
 use Rattle.tags.specs.Refusal.{refusalNumber}
 use Rattle.layout.specs.Layout.{layOutOf}
 use Rattle.tags.specs.declared.refusal.Answer.{Answer}
 use Rattle.tags.specs.declared.refusal.Answer.the-variants as answer
-use Rattle.ledger.specs.Ledger.{Call, allocate, resultOf, opened, run}
+use Rattle.ledger.specs.Ledger.{stampOf, Call, allocate, resultOf, begun, run}
 
 -- a fresh image of three buffers of 24 bytes
 unfoldable pub freshAreas : Areas
@@ -50,24 +50,25 @@ pub data Check : Type 0 where
   -- two tag words, and the state whose pattern their xor is
   tagged : (t0 t1 : ℕ) → State → Check
   -- the chunk of a buffer whose own record is at an address and is met by the chain or not, and the number and the value of its verdict
-  judged : (chunk : List ℕ) (address : ℕ) (met : Bool) (number value : ℕ) → Check
+  examined : (chunk : List ℕ) (address : ℕ) (met : Bool) (number value : ℕ) → Check
   -- a time, two stamps and their ages, of which the second is later
   aged : (time first second : ℕ) (age₁ age₂ : ℕ) → Check
   -- calls made in the fresh image, and the number of the refusal of an allocate after them
   next : (calls : List Call) (number : ℕ) → Check
 
 -- what a check claims
-abbrev pub Holds : Check → Type 0
-Holds (tagged t0 t1 s) = bitXor t0 t1 ≡ stateWord s
-Holds (judged c a met number value) = (verdictNumber (ownedVerdict c a met false) ≡ number) × (verdictValue (ownedVerdict c a met false) ≡ value)
-Holds (aged time first second age₁ age₂) =
+abbrev pub ClaimOf : Check → Type 0
+ClaimOf (tagged t0 t1 s) = bitXor t0 t1 ≡ stateWord s
+ClaimOf (examined c a met number value) =
+    (verdictNumber (ownedVerdict c a (standing met false)) ≡ number) × (verdictValue (ownedVerdict c a (standing met false)) ≡ value)
+ClaimOf (aged time first second age₁ age₂) =
     (ageOf 32 time first ≡ age₁) × (ageOf 32 time second ≡ age₂) × (rowLatest time first second ≡ true) × (rowLatest time second first ≡ false)
-Holds (next calls number) = refusedAs (resultOf (allocate grant.Whole 4 7) (run 24 calls (opened freshAreas) .areas) .answer) ≡ number
+ClaimOf (next calls number) = refusedAs (resultOf (allocate grant.Whole (stampOf 4 7)) (run 24 calls (begun freshAreas) .areas) .answer) ≡ number
 
 -- every check of a list holds
-abbrev pub AllHold : List Check → Type 0
-AllHold [] = Unit {0}
-AllHold (c ∷ cs) = Holds c × AllHold cs
+abbrev pub AllClaims : List Check → Type 0
+AllClaims [] = Unit {0}
+AllClaims (c ∷ cs) = ClaimOf c × AllClaims cs
 
 -- a chunk of the free pattern, but for T1, and one of the allocated pattern
 unfoldable pub freeWith : List ℕ → ℕ → List ℕ
@@ -81,14 +82,14 @@ unfoldable pub checks : List Check
 checks =
     tagged 0x70ae3260 0x8440c68e state.Free
     ∷ tagged 0x70ae3200 0xd1befaed state.Allocated
-    ∷ judged (freeWith (repeated 24 freeFill) 0x8440c68f) 0x70ae3260 true 21 0
-    ∷ judged (allocatedWith (set (repeated 24 grantFill) 20 guard) redzone 0x139d) 0x70ae3200 false 2 20
-    ∷ judged (allocatedWith (set (repeated 24 grantFill) 20 guard) redzone 0x139e) 0x70ae3200 false 27 0
-    ∷ judged (allocatedWith (repeated 24 grantFill) redzone 1) 0x70ae3200 false 27 0
-    ∷ judged (allocatedWith (repeated 24 grantFill) 0xbbedface 0x1789) 0x70ae3200 false 2 24
-    ∷ judged (allocatedWith (repeated 24 grantFill) redzone 0x1884) 0x70ae3200 false 27 0
-    ∷ judged (allocatedWith (repeated 24 grantFill) 0x00edface redzone) 0x70ae3200 false 28 24
-    ∷ judged (freeWith (set (repeated 24 freeFill) 9 0) 0x8440c68e) 0x70ae3260 true 25 9
+    ∷ examined (freeWith (repeated 24 freeFill) 0x8440c68f) 0x70ae3260 true 21 0
+    ∷ examined (allocatedWith (set (repeated 24 grantFill) 20 guard) redzone 0x139d) 0x70ae3200 false 2 20
+    ∷ examined (allocatedWith (set (repeated 24 grantFill) 20 guard) redzone 0x139e) 0x70ae3200 false 27 0
+    ∷ examined (allocatedWith (repeated 24 grantFill) redzone 1) 0x70ae3200 false 27 0
+    ∷ examined (allocatedWith (repeated 24 grantFill) 0xbbedface 0x1789) 0x70ae3200 false 2 24
+    ∷ examined (allocatedWith (repeated 24 grantFill) redzone 0x1884) 0x70ae3200 false 27 0
+    ∷ examined (allocatedWith (repeated 24 grantFill) 0x00edface redzone) 0x70ae3200 false 28 24
+    ∷ examined (freeWith (set (repeated 24 freeFill) 9 0) 0x8440c68e) 0x70ae3260 true 25 9
     ∷ aged 0x10 0xfffffff0 8 32 8
-    ∷ next (allocate grant.Whole 1 7 ∷ allocate grant.Whole 2 7 ∷ allocate grant.Whole 3 7 ∷ []) 5
+    ∷ next (allocate grant.Whole (stampOf 1 7) ∷ allocate grant.Whole (stampOf 2 7) ∷ allocate grant.Whole (stampOf 3 7) ∷ []) 5
     ∷ []

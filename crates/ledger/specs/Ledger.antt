@@ -6,140 +6,130 @@ use mathlib.Core.List.{List, [], _∷_}
 use mathlib.Core.Option.{Option, none, some}
 use Prim.Native.Nat.{ℕ, suc, _+_, _<_}
 use lib.Dec.{eqb}
-use lib.ListN.{length}
 use lib.Seq.{sets}
 use Rattle.words.specs.Word.{part}
 use Rattle.words.specs.Sum.{total}
 use Rattle.words.specs.Run.{repeated}
-use Rattle.chunks.specs.Chunk.{grantFill, grantSize, lawfulSize}
+use Rattle.tags.specs.Refusal.{done}
 use Rattle.tags.specs.Verdict.{verdictNumber, isFault, isFoundAllocated}
-use Rattle.chunks.specs.declared.chunk.Grant.{Grant}
-use Rattle.chunks.specs.declared.chunk.Grant.the-variants as grant
+use Rattle.tags.specs.declared.ending.Ending.the-variants.{End}
+use Rattle.tags.specs.declared.refusal.Refusal.the-variants.{NoRoom, NotAllocated}
+use Rattle.tags.specs.declared.refusal.Answer.{Answer}
+use Rattle.tags.specs.declared.refusal.Answer.the-variants as answer
 use Rattle.tags.specs.declared.verdict.Verdict.{Verdict}
 use Rattle.tags.specs.declared.verdict.Verdict.the-variants as verdict
-use Rattle.sheet.specs.Areas.{Areas, Result}
-use Rattle.sheet.specs.Geometry.{bufferAddress}
-use Rattle.sheet.specs.Opening.{openedOf}
-use Rattle.verdicts.specs.Chain.{occ}
+use Rattle.chunks.specs.Chunk.{grantFill, grantSize, lawfulSize}
+use Rattle.chunks.specs.declared.chunk.Grant.{Grant}
+use Rattle.chunks.specs.declared.chunk.Grant.the-variants as grant
+use Rattle.area.specs.declared.record.Stamp.{Stamp}
+use Rattle.sheet.specs.Areas.{Areas, Result, Image, imageOf, opening}
+use Rattle.sheet.specs.Geometry.{laidSheet, headed, bufferAddress}
+use Rattle.sheet.specs.declared.geometry.Sheet.{Sheet}
+use Rattle.sheet.specs.declared.opening.Opened.the-variants as opened
+use Rattle.verdicts.specs.Chain.{occ, chainOf}
 use Rattle.verdicts.specs.Pairing.{ownOf}
-use Rattle.verdicts.specs.Judge.{imageChain, verdictOf}
+use Rattle.verdicts.specs.Judge.{verdictOf}
+use Rattle.verdicts.specs.declared.pairing.Own.the-variants.{One}
 use Rattle.layout.specs.Layout.{layOutOf}
-use Rattle.sheet.specs.Geometry.{laidSheet}
 use Rattle.allocation.specs.Allocate.{allocateOf}
 use Rattle.holding.specs.Free.{freeOf}
 use Rattle.holding.specs.Store.{storeOf}
 use Rattle.holding.specs.Show.{shownOf}
-use Rattle.sheet.specs.declared.geometry.Sheet.{Sheet}
-use Rattle.sheet.specs.declared.opening.Opened.the-variants as opened
-use Rattle.tags.specs.declared.ending.Ending.the-variants.{End}
-use Rattle.verdicts.specs.declared.pairing.Own.the-variants.{One}
-use Rattle.tags.specs.declared.refusal.Refusal.the-variants.{NoRoom, NotAllocated}
-use Rattle.tags.specs.declared.refusal.Answer.{Answer}
-use Rattle.tags.specs.declared.refusal.Answer.the-variants as answer
-use Rattle.tags.specs.Refusal.{done}
 use Rattle.holding.specs.declared.show.Shown.the-variants as shown
 
 -- ---- the calls
 
+-- K8 (what a call is stamped with: its uptime and its thread)
+abbrev pub stampOf : ℕ → ℕ → Stamp
+stampOf uptime thread = record { uptime = uptime; thread = thread }
+
 -- K5 (allocate), K7 (free), K9 (store): with any numbers
 pub data Call : Type 0 where
-  allocate : (q : Grant) (uptime thread : ℕ) → Call
-  free : (address : ℕ) (q : Grant) (uptime thread : ℕ) → Call
+  allocate : (q : Grant) (s : Stamp) → Call
+  free : (address : ℕ) (q : Grant) (s : Stamp) → Call
   store : (address offset : ℕ) (bytes : List ℕ) → Call
 
 -- K and E: each call refuses, answers and writes as its own definition says
 abbrev pub resultOf : Call → Areas → Result Answer
-resultOf (allocate q uptime thread) a = allocateOf a q uptime thread
-resultOf (free address q uptime thread) a = freeOf a address q uptime thread
+resultOf (allocate q s) a = allocateOf a q s
+resultOf (free address q s) a = freeOf a address q s
 resultOf (store address offset bytes) a = storeOf a address offset bytes
 
 -- ---- the ledger
 
--- B2 (what is known of a buffer that is out: its grant and its client bytes)
-pub record Loan : Type 0 where
+-- B2 (what the ledger has of a buffer that is out: its grant and its client bytes)
+pub record Entry : Type 0 where
   pub grant : Grant
   pub client : List ℕ
 
--- B1 to B5 (the ledger): by its address the loan of a buffer that is out, and none of any other; and how many calls were accepted
+-- B1 to B5 (the ledger): by its address the entry of a buffer that is out, and none of any other; and how many calls were accepted
 pub record Ledger : Type 0 where
-  pub out : ℕ → Option Loan
+  pub out : ℕ → Option Entry
   pub allocations : ℕ
   pub frees : ℕ
 
 -- what stands at one address is changed
-unfoldable pub put : ℕ → Option Loan → (ℕ → Option Loan) → ℕ → Option Loan
+unfoldable pub put : ℕ → Option Entry → (ℕ → Option Entry) → ℕ → Option Entry
 put a o f x = cond (eqb x a) o (f x)
 
 -- B2 (the grant asked for, and its client bytes: ba dd ca fe repeated)
-abbrev pub fresh : ℕ → Grant → Loan
+abbrev pub fresh : ℕ → Grant → Entry
 fresh size q = record { grant = q; client = repeated (grantSize size q) grantFill }
 
 -- B3 (bytes over the client bytes, from the offset on)
-abbrev pub laidOver : ℕ → List ℕ → Option Loan → Option Loan
-laidOver offset bytes none = none
-laidOver offset bytes (some o) = some (record { grant = o .grant; client = sets (o .client) offset bytes })
+abbrev pub overwritten : ℕ → List ℕ → Option Entry → Option Entry
+overwritten offset bytes none = none
+overwritten offset bytes (some o) = some (record { grant = o .grant; client = sets (o .client) offset bytes })
 
 -- B2 (an accepted allocate), B5 (a refused call)
-abbrev pub noteAllocate : ℕ → Grant → Answer → Ledger → Ledger
-noteAllocate size q (answer.Value a) l = record { out = put a (some (fresh size q)) (l .out); allocations = suc (l .allocations); frees = l .frees }
-noteAllocate size q (answer.Refused why) l = l
+abbrev pub afterAllocate : ℕ → Grant → Answer → Ledger → Ledger
+afterAllocate size q (answer.Value a) l = record { out = put a (some (fresh size q)) (l .out); allocations = suc (l .allocations); frees = l .frees }
+afterAllocate size q (answer.Refused why) l = l
 
 -- B4 (an accepted free), B5
-abbrev pub noteFree : ℕ → Answer → Ledger → Ledger
-noteFree address (answer.Value v) l = record { out = put address none (l .out); allocations = l .allocations; frees = suc (l .frees) }
-noteFree address (answer.Refused why) l = l
+abbrev pub afterFree : ℕ → Answer → Ledger → Ledger
+afterFree address (answer.Value v) l = record { out = put address none (l .out); allocations = l .allocations; frees = suc (l .frees) }
+afterFree address (answer.Refused why) l = l
 
 -- B3 (an accepted store), B5
-abbrev pub noteStore : ℕ → ℕ → List ℕ → Answer → Ledger → Ledger
-noteStore address offset bytes (answer.Value v) l = record {
-  out = put address (laidOver offset bytes (l .out address)) (l .out);
+abbrev pub afterStore : ℕ → ℕ → List ℕ → Answer → Ledger → Ledger
+afterStore address offset bytes (answer.Value v) l = record {
+  out = put address (overwritten offset bytes (l .out address)) (l .out);
   allocations = l .allocations;
   frees = l .frees;
 }
-noteStore address offset bytes (answer.Refused why) l = l
+afterStore address offset bytes (answer.Refused why) l = l
 
 -- B2 to B5, from what a call is given and what it answers alone; `size` is that of the buffers, an argument of lay out
-abbrev pub note : ℕ → Call → Answer → Ledger → Ledger
-note size (allocate q uptime thread) answer l = noteAllocate size q answer l
-note size (free address q uptime thread) answer l = noteFree address answer l
-note size (store address offset bytes) answer l = noteStore address offset bytes answer l
+abbrev pub afterCall : ℕ → Call → Answer → Ledger → Ledger
+afterCall size (allocate q s) answer l = afterAllocate size q answer l
+afterCall size (free address q s) answer l = afterFree address answer l
+afterCall size (store address offset bytes) answer l = afterStore address offset bytes answer l
 
 -- ---- a run
 
-pub record World : Type 0 where
+-- the areas and the ledger between two calls
+pub record RunState : Type 0 where
   pub areas : Areas
   pub ledger : Ledger
 
--- B1 (an accepted lay out opens it)
-abbrev pub opened : Areas → World
-opened a = record { areas = a; ledger = record { out = λ x. none; allocations = 0; frees = 0 } }
+-- B1 (an accepted lay out begins it)
+abbrev pub begun : Areas → RunState
+begun a = record { areas = a; ledger = record { out = λ x. none; allocations = 0; frees = 0 } }
 
--- one call: it gets the areas as they are, and its answer is noted
-abbrev pub step : ℕ → Call → World → World
+-- one call: it gets the areas as they are, and its answer goes into the ledger
+abbrev pub step : ℕ → Call → RunState → RunState
 step size call w = record {
   areas = resultOf call (w .areas) .areas;
-  ledger = note size call (resultOf call (w .areas) .answer) (w .ledger);
+  ledger = afterCall size call (resultOf call (w .areas) .answer) (w .ledger);
 }
 
 -- a list of calls, which may be empty: each gets the areas as the one before left them
-unfoldable pub run : ℕ → List Call → World → World
+unfoldable pub run : ℕ → List Call → RunState → RunState
 run size [] w = w
 run size (call ∷ calls) w = run size calls (step size call w)
 
 -- ---- what holds after every run
-
--- B6 (a sheet but for its head)
-abbrev pub headed : Sheet → ℕ → Sheet
-headed g head = record {
-  cache = g .cache;
-  heap = g .«heap_base»;
-  records = g .«record_base»;
-  size = g .size;
-  chunk = g .chunk;
-  count = g .count;
-  head = head;
-  flags = g .flags;
-}
 
 -- J9 (found as granted: 1 whole, 2 with s)
 abbrev pub asGranted : Grant → Verdict
@@ -147,9 +137,9 @@ asGranted grant.Whole = verdict.Whole
 asGranted (grant.Sized s) = verdict.Allocated s
 
 -- B8 (out: found as granted; not out: found free)
-abbrev pub asNoted : Option Loan → Verdict
-asNoted none = verdict.Free
-asNoted (some o) = asGranted (o .grant)
+abbrev pub asEntered : Option Entry → Verdict
+asEntered none = verdict.Free
+asEntered (some o) = asGranted (o .grant)
 
 -- 1 for a buffer that is found allocated, else 0, and how many of n are
 abbrev pub allocatedOne : Verdict → ℕ
@@ -159,58 +149,58 @@ abbrev pub foundAllocated : (ℕ → Verdict) → ℕ → ℕ
 foundAllocated v n = total (λ i. allocatedOne (v i)) n
 
 -- B10 (how often the chain must meet the record of a buffer): once if it is not out, and not at all if it is
-abbrev pub timesMet : Option Loan → ℕ
+abbrev pub timesMet : Option Entry → ℕ
 timesMet none = 1
 timesMet (some o) = 0
 
-abbrev pub isOut : Option Loan → Bool
+abbrev pub isOut : Option Entry → Bool
 isOut none = false
 isOut (some o) = true
 
+-- the image between two calls, once the sheet's numbers are known
+abbrev pub imageAt : RunState → Sheet → Image
+imageAt w g = imageOf (w .areas) g
+
 -- the claim, of an image that was laid out with the numbers `laid`
-pub record Sound (laid : Sheet) (w : World) : Type 0 where
+pub record Sound (laid : Sheet) (w : RunState) : Type 0 where
   -- B6: the image opens, and its sheet is the one laid out but for the head
   pub sheet : Sheet
   pub onlyHead : sheet ≡ headed laid (sheet .head)
-  pub opens : openedOf (w .areas .sheet) (length (w .areas .heap)) (length (w .areas .records)) ≡ opened.Sheet sheet
+  pub opens : opening (w .areas) ≡ opened.Sheet sheet
   -- B7: no buffer has a fault
-  pub noFault : (i : ℕ) → i < laid .count → isFault (verdictNumber (verdictOf sheet (w .areas .heap) (w .areas .records) i)) ≡ false
+  pub noFault : (i : ℕ) → i < laid .count → isFault (verdictNumber (verdictOf (imageAt w sheet) i)) ≡ false
   -- B8: the buffers found allocated are those that are out, each as last granted, and all others are found free
-  pub found : (i : ℕ) → i < laid .count
-      → verdictOf sheet (w .areas .heap) (w .areas .records) i ≡ asNoted (w .ledger .out (bufferAddress laid i))
+  pub found : (i : ℕ) → i < laid .count → verdictOf (imageAt w sheet) i ≡ asEntered (w .ledger .out (bufferAddress laid i))
   -- and what is out is a buffer
   pub buffers : (a : ℕ) → isOut (w .ledger .out a) ≡ true → (i : ℕ) × ((i < laid .count) × (a ≡ bufferAddress laid i))
   -- B9: the number found allocated is that of the accepted allocations less that of the accepted frees
-  pub count : w .ledger .allocations ≡ w .ledger .frees + foundAllocated (verdictOf sheet (w .areas .heap) (w .areas .records)) (laid .count)
+  pub count : w .ledger .allocations ≡ w .ledger .frees + foundAllocated (verdictOf (imageAt w sheet)) (laid .count)
   -- B10: the chain ends; it meets the own record of each buffer that is not out once, and of one that is out not at all; and what it meets is the own
   -- record of a buffer that is not out
-  pub ends : imageChain sheet (w .areas .records) .ending ≡ End
-  pub meets : (i : ℕ) → i < laid .count
+  pub ends : chainOf (imageAt w sheet) .ending ≡ End
+  pub ownMet : (i : ℕ) → i < laid .count
       → (j : ℕ)
-      × ((ownOf (w .areas .records) (laid .count) (bufferAddress laid i) ≡ One j)
-      × (occ j (imageChain sheet (w .areas .records) .met) ≡ timesMet (w .ledger .out (bufferAddress laid i))))
-  pub onlyThose : (j : ℕ) → occ j (imageChain sheet (w .areas .records) .met) ≢ 0
-      → (i : ℕ)
-      × ((i < laid .count)
-      × ((ownOf (w .areas .records) (laid .count) (bufferAddress laid i) ≡ One j) × (w .ledger .out (bufferAddress laid i) ≡ none)))
+      × ((ownOf (imageAt w sheet) i ≡ One j) × (occ j (chainOf (imageAt w sheet) .met) ≡ timesMet (w .ledger .out (bufferAddress laid i))))
+  pub onlyThose : (j : ℕ) → occ j (chainOf (imageAt w sheet) .met) ≢ 0
+      → (i : ℕ) × ((i < laid .count) × ((ownOf (imageAt w sheet) i ≡ One j) × (w .ledger .out (bufferAddress laid i) ≡ none)))
   -- B11: show answers the client bytes of a buffer that is out, and refuses one that is not
-  pub shows : (a : ℕ) (o : Loan) → w .ledger .out a ≡ some o
+  pub shows : (a : ℕ) (o : Entry) → w .ledger .out a ≡ some o
       → (at : ℕ) × ((len : ℕ) × ((shownOf (w .areas) a ≡ shown.Client at len) × (part (w .areas .heap) at len ≡ o .client)))
   pub hides : (i : ℕ) → i < laid .count → w .ledger .out (bufferAddress laid i) ≡ none
       → shownOf (w .areas) (bufferAddress laid i) ≡ shown.Refused NotAllocated
   -- B12: a request of lawful size, which X6 does not fit, is refused for want of room, X5, exactly when all buffers are out; else it is accepted, with
   -- the address of a buffer that is not out
-  pub room : (q : Grant) (uptime thread : ℕ) → lawfulSize (laid .size) q ≡ true
-      → (allocateOf (w .areas) q uptime thread .answer ≡ answer.Refused NoRoom)
+  pub room : (q : Grant) (s : Stamp) → lawfulSize (laid .size) q ≡ true
+      → (allocateOf (w .areas) q s .answer ≡ answer.Refused NoRoom)
       ↔ ((i : ℕ) → i < laid .count → isOut (w .ledger .out (bufferAddress laid i)) ≡ true)
-  pub accepts : (q : Grant) (uptime thread : ℕ) → lawfulSize (laid .size) q ≡ true
-      → (allocateOf (w .areas) q uptime thread .answer ≢ answer.Refused NoRoom)
+  pub accepts : (q : Grant) (s : Stamp) → lawfulSize (laid .size) q ≡ true
+      → (allocateOf (w .areas) q s .answer ≢ answer.Refused NoRoom)
       → (i : ℕ)
       × ((i < laid .count)
-      × ((w .ledger .out (bufferAddress laid i) ≡ none) × (allocateOf (w .areas) q uptime thread .answer ≡ answer.Value (bufferAddress laid i))))
+      × ((w .ledger .out (bufferAddress laid i) ≡ none) × (allocateOf (w .areas) q s .answer ≡ answer.Value (bufferAddress laid i))))
 
 -- B6 to B12, one claim about the whole list: after an accepted lay out, whose cache address is a word, and any calls
 abbrev pub Claim : Type 0
 Claim = (a : Areas) (cache heap records size n : ℕ) → cache < 4294967296 → layOutOf a cache heap records size n .answer ≡ done
     → (calls : List Call)
-    → Sound (laidSheet cache heap records size n) (run size calls (opened (layOutOf a cache heap records size n .areas)))
+    → Sound (laidSheet cache heap records size n) (run size calls (begun (layOutOf a cache heap records size n .areas)))

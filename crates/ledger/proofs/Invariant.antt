@@ -9,12 +9,9 @@ use native.Mathlib.Decide.{decLt}
 use native.Mathlib.Omega.{arith}
 use lib.ListN.{length}
 use Rattle.words.proofs.Parts.{below}
-use Rattle.sheet.specs.Areas.{Areas, chunkAt}
-use Rattle.sheet.specs.Geometry.{bufferAddress, recordAddress}
-use Rattle.sheet.specs.Geometry.{heapLength, recordsLength}
+use Rattle.sheet.specs.Areas.{Areas, opening, chunkIn}
+use Rattle.sheet.specs.Geometry.{headed, heapLength, recordsLength, bufferAddress, recordAddress, bufferOf}
 use Rattle.sheet.specs.Limits.{lawful, Lawful}
-use Rattle.sheet.specs.Opening.{openedOf}
-use Rattle.area.specs.Place.{placeOf}
 use Rattle.area.specs.Record.{addressWord, nextWord}
 use Rattle.verdicts.specs.Chain.{occ}
 use Rattle.sheet.specs.Fields.{sheetBytes}
@@ -23,9 +20,9 @@ use Rattle.sheet.specs.declared.opening.Opened.the-variants as opened
 use Rattle.area.specs.declared.place.Place.the-variants.{Nowhere}
 use Rattle.sheet.proofs.Sheets.{record-word}
 use Rattle.verdicts.proofs.Chains.{Linked}
-use Rattle.ledger.specs.Ledger.{Loan, headed}
-use Rattle.ledger.proofs.Chunks.{chunkFor, LawfulLoan}
-use Rattle.ledger.proofs.Sheets.{Fits, sheet-opens}
+use Rattle.ledger.specs.Ledger.{Entry}
+use Rattle.ledger.proofs.Chunks.{chunkFor, LawfulEntry}
+use Rattle.sheet.proofs.Bytes.{Fits, sheet-opens}
 
 -- what is known of the numbers that were laid out
 pub record Laid (g : Sheet) : Type 0 where
@@ -35,22 +32,22 @@ pub record Laid (g : Sheet) : Type 0 where
   pub flagsFit : g .flags < 65536
 
 -- 1 for a buffer that is out
-abbrev pub outs : Option Loan → ℕ
+abbrev pub outs : Option Entry → ℕ
 outs none = 0
 outs (some o) = 1
 
 -- `chain` holds the records of the buffers that are not out, in the chain's order
-pub record Holds (g : Sheet) (head : ℕ) (a : Areas) (out : ℕ → Option Loan) (chain : List ℕ) : Type 0 where
+pub record Invariant (g : Sheet) (head : ℕ) (a : Areas) (out : ℕ → Option Entry) (chain : List ℕ) : Type 0 where
   pub sheetIs : a .sheet ≡ sheetBytes (headed g head)
   pub heapLong : length (a .heap) ≡ heapLength g
   pub recordsLong : length (a .records) ≡ recordsLength g
   pub linked : Linked (nextWord (a .records)) (g .«record_base») (g .count) head chain
   pub each : (j : ℕ) → j < g .count → occ j chain + outs (out (bufferAddress g j)) ≡ 1
   pub only : (j : ℕ) → g .count ≤ j → occ j chain ≡ 0
-  pub chunks : (j : ℕ) → j < g .count → chunkAt g (a .heap) j ≡ chunkFor (g .size) (recordAddress g j) (out (bufferAddress g j))
+  pub chunks : (j : ℕ) → j < g .count → chunkIn g (a .heap) j ≡ chunkFor (g .size) (recordAddress g j) (out (bufferAddress g j))
   pub names : (j : ℕ) → j < g .count → addressWord (a .records) j ≡ bufferAddress g j
-  pub loans : (j : ℕ) → j < g .count → LawfulLoan (g .size) (out (bufferAddress g j))
-  pub stray : (x : ℕ) → placeOf (g .«heap_base») (g .chunk) (g .count) x ≡ Nowhere → out x ≡ none
+  pub entries : (j : ℕ) → j < g .count → LawfulEntry (g .size) (out (bufferAddress g j))
+  pub stray : (x : ℕ) → bufferOf g x ≡ Nowhere → out x ≡ none
 
 module _ (g : Sheet) (laid : Laid g) where
   -- a record's address is a word, and not 0
@@ -92,8 +89,8 @@ module _ (g : Sheet) (laid : Laid g) where
       let one : 0 < g .count = law .sizes .some in
       record {
         cache = laid .cacheFits;
-        heap = omega (arith, below (g .chunk) one, law .bases .heapFits, chunk-some);
-        records = omega (arith, record-fits 0 one);
+        heapBase = omega (arith, below (g .chunk) one, law .bases .heapFits, chunk-some);
+        recordBase = omega (arith, record-fits 0 one);
         size = omega (arith, law .sizes .most);
         chunk = omega (arith, law .sizes .most, law .sizes .chunks);
         count = omega (arith, law .sizes .few);
@@ -105,9 +102,9 @@ module _ (g : Sheet) (laid : Laid g) where
   unfolding lawful
   passed-headed head = laid .passed
 
-  module _ {head : ℕ} {a : Areas} {out : ℕ → Option Loan} {chain : List ℕ} (v : Holds g head a out chain) where
+  module _ {head : ℕ} {a : Areas} {out : ℕ → Option Entry} {chain : List ℕ} (v : Invariant g head a out chain) where
     -- the image opens
-    pub opens : openedOf (a .sheet) (length (a .heap)) (length (a .records)) ≡ opened.Sheet (headed g head)
+    pub opens : opening a ≡ opened.Sheet (headed g head)
     opens =
         rw (v .sheetIs)
         (sheet-opens (headed g head) (length (a .heap)) (length (a .records)) (fits head (head-fits (nextWord (a .records)) head chain (v .linked)))
