@@ -17,7 +17,7 @@ use Rattle.area.specs.declared.place.Place.the-variants.{At}
 use Rattle.area.proofs.Places.{place-found}
 use Rattle.area.proofs.Placed.{by-place}
 use Rattle.sheet.specs.Areas.{Areas, byLengths, Image, opening, chunkIn, chunkAt}
-use Rattle.sheet.specs.Geometry.{bufferOf, recordOf}
+use Rattle.geometry.specs.Sheet.{bufferOf, recordOf}
 use Rattle.sheet.proofs.Opens.{opened-known, by-opened}
 use Rattle.places.specs.Spot.{spot}
 use Rattle.places.specs.declared.spot.Spot.{Spot}

@@ -22,7 +22,7 @@ use Rattle.area.specs.Record.{stamped, addressWord, nextWord}
 use Rattle.area.specs.declared.record.Stamp.{Stamp}
 use Rattle.sheet.specs.Areas.{Areas, areas, Result, result, refusedWith, Image, opening, byImage, chunkAt}
 use Rattle.sheet.specs.Fields.{withHead}
-use Rattle.sheet.specs.Geometry.{bufferOf, recordOf}
+use Rattle.geometry.specs.Sheet.{bufferOf, recordOf}
 use Rattle.places.specs.Spot.{spot, chunkStart, bufferStart, Within}
 use Rattle.places.specs.declared.spot.Spot.{Spot}
 use Rattle.allocation.specs.declared.allocate.AllocatePlan.{AllocatePlan}

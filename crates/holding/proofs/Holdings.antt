@@ -27,11 +27,11 @@ use Rattle.area.proofs.Places.{place-found}
 use Rattle.area.proofs.Placed.{by-place}
 use Rattle.sheet.specs.Areas.{Areas, byLengths, Image, imageOf, opening, chunkAt}
 use Rattle.sheet.specs.Fields.{sheetOf}
-use Rattle.sheet.specs.Geometry.{bufferOf, recordOf}
+use Rattle.geometry.specs.Sheet.{bufferOf, recordOf}
 use Rattle.sheet.specs.Opening.{Open}
-use Rattle.sheet.specs.declared.geometry.Sheet.{Sheet}
+use Rattle.geometry.specs.declared.sheet.Sheet.{Sheet}
 use Rattle.sheet.proofs.Opens.{Opens, opened-known, by-opened}
-use Rattle.sheet.proofs.Sheets.{chunk-inside, chunk-small}
+use Rattle.geometry.proofs.Sheets.{chunk-inside, chunk-small}
 use Rattle.places.specs.Spot.{spot, bufferStart}
 use Rattle.places.specs.declared.spot.Spot.{Spot}
 use Rattle.places.proofs.Chunks.{chunk-long}

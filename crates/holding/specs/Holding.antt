@@ -18,7 +18,7 @@ use Rattle.chunks.specs.declared.chunk.Grant.the-variants.{Whole, Sized}
 use Rattle.area.specs.Place.{byPlace}
 use Rattle.area.specs.Record.{addressWord}
 use Rattle.sheet.specs.Areas.{Image, chunkAt}
-use Rattle.sheet.specs.Geometry.{bufferOf, recordOf}
+use Rattle.geometry.specs.Sheet.{bufferOf, recordOf}
 use Rattle.places.specs.Spot.{spot, chunkStart, Within}
 use Rattle.places.specs.declared.spot.Spot.{Spot}
 use Rattle.holding.specs.declared.holding.Holding.{Holding}

@@ -7,7 +7,7 @@ ghost use Rattle.holding.specs.Holding.{heldOf};
 ghost use Rattle.holding.specs.Store.{storeTest, storePlan, storeOf};
 use crate::holding;
 use crate::holding::Held;
-use sheet::geometry::Sheet;
+use geometry::sheet::Sheet;
 use sheet::opening;
 use sheet::opening::Opened;
 use tags::refusal::Answer;

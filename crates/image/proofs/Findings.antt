@@ -16,11 +16,11 @@ use Rattle.verdicts.specs.Walk.{marksOf, mark}
 use Rattle.verdicts.specs.Chain.{Chain, occ}
 use Rattle.verdicts.specs.Pairing.{ofMark, OwnIf, Paired}
 use Rattle.verdicts.specs.Judge.{judged, marked, metBy, imageChain, verdictOf}
-use Rattle.sheet.specs.Limits.{Lawful}
+use Rattle.geometry.specs.Limits.{Lawful}
 use Rattle.sheet.specs.Opening.{Open, openedOf, openedWithLog}
 use Rattle.image.specs.Inspect.{findingOf, filled, inspectOf, Inspection, foundBy, started, Ready, Begins}
 use Rattle.image.specs.Inspect.{numbersOf, rowsOf, tableOf, surveyed, Surveying, surveyOf}
-use Rattle.sheet.specs.declared.geometry.Sheet.{Sheet}
+use Rattle.geometry.specs.declared.sheet.Sheet.{Sheet}
 use Rattle.tags.specs.declared.ending.Ending.{Ending}
 use Rattle.tags.specs.declared.ending.Ending.the-variants as ending
 use Rattle.sheet.specs.declared.opening.Opened.the-variants as opened

@@ -7,12 +7,12 @@ use lib.Seq.{sets}
 use Rattle.words.specs.Word.{flat}
 use Rattle.tags.specs.Verdict.{verdictNumber, verdictValue}
 use Rattle.tags.specs.declared.verdict.Verdict.{Verdict}
-use Rattle.sheet.specs.Limits.{Lawful}
-use Rattle.sheet.specs.Geometry.{heapLength}
+use Rattle.geometry.specs.Limits.{Lawful}
+use Rattle.geometry.specs.Sheet.{heapLength}
 use Rattle.sheet.specs.Opening.{openedOf, openedWithLog, byOpened}
 use Rattle.verdicts.specs.Pairing.{ofMark, PairedIn}
 use Rattle.verdicts.specs.Judge.{judged, marked, verdictOf, imageChain}
-use Rattle.sheet.specs.declared.geometry.Sheet.{Sheet}
+use Rattle.geometry.specs.declared.sheet.Sheet.{Sheet}
 use Rattle.tags.specs.declared.ending.Ending.{Ending}
 use Rattle.tags.specs.declared.refusal.Refusal.the-variants.{ShortOutput}
 use Rattle.image.specs.declared.inspect.Finding.{Finding}

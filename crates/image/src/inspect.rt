@@ -11,7 +11,7 @@ ghost use Rattle.verdicts.specs.Pairing.{Paired};
 ghost use Rattle.verdicts.specs.Walk.{marksOf};
 ghost use Rattle.verdicts.specs.Judge.{imageChain};
 ghost use Rattle.image.specs.Inspect.{inspectOf, foundBy, started, Ready, Begins, numbersOf, rowsOf, tableOf, tabulateOf, surveyOf};
-use sheet::geometry::Sheet;
+use geometry::sheet::Sheet;
 use sheet::opening;
 use sheet::opening::Opened;
 use tags::ending::Ending;

@@ -9,11 +9,11 @@ use lib.ListN.{length}
 use Rattle.chunks.proofs.Chunks.{length-freeChunk}
 use Rattle.area.specs.Record.{recordSize}
 use Rattle.area.proofs.Records.{length-recordBytes}
-use Rattle.sheet.specs.Geometry.{bufferAddress, recordAddress}
+use Rattle.geometry.specs.Sheet.{bufferAddress, recordAddress}
 use Rattle.sheet.specs.Fields.{sheetLength}
-use Rattle.sheet.specs.Limits.{Lawful}
+use Rattle.geometry.specs.Limits.{Lawful}
 use Rattle.sheet.specs.Opening.{numbered}
-use Rattle.sheet.specs.declared.geometry.Sheet.{Sheet}
+use Rattle.geometry.specs.declared.sheet.Sheet.{Sheet}
 use Rattle.sheet.specs.declared.opening.Opened.the-variants as opened
 use Rattle.sheet.proofs.Opens.{numbered-known}
 use Rattle.tags.specs.declared.refusal.Refusal.the-variants.{BadSheet}

@@ -10,9 +10,9 @@ use Rattle.chunks.specs.Chunk.{freeChunk}
 use Rattle.area.specs.Record.{recordBytes}
 use Rattle.sheet.specs.Areas.{Areas, areas, Result, result, refusedWith}
 use Rattle.sheet.specs.Fields.{sheetLength, sheetBytes}
-use Rattle.sheet.specs.Geometry.{laidSheet, bufferAddress, recordAddress}
+use Rattle.geometry.specs.Sheet.{laidSheet, bufferAddress, recordAddress}
 use Rattle.sheet.specs.Opening.{numbered, byOpened, Open}
-use Rattle.sheet.specs.declared.geometry.Sheet.{Sheet}
+use Rattle.geometry.specs.declared.sheet.Sheet.{Sheet}
 use Rattle.sheet.specs.declared.opening.Opened.{Opened}
 use Rattle.sheet.specs.declared.opening.Opened.the-variants as opened
 use Rattle.tags.specs.declared.refusal.Refusal.the-variants.{BadSheet}

@@ -4,12 +4,12 @@ ghost use mathlib.Core.Path.{_≡_};
 ghost use Prim.Native.Nat.{_<_};
 ghost use lib.ListN.{length};
 ghost use lib.Seq.{sets};
-ghost use Rattle.sheet.specs.Geometry.{heapLength, recordsLength, recordPlace};
-ghost use Rattle.sheet.specs.Limits.{Lawful};
+ghost use Rattle.geometry.specs.Sheet.{heapLength, recordsLength, recordPlace};
+ghost use Rattle.geometry.specs.Limits.{Lawful};
 ghost use Rattle.layout.specs.Layout.{linkTo, laidRecord, laidAreas};
+use geometry::sheet::Sheet;
 use places::heap;
 use places::records;
-use sheet::geometry::Sheet;
 
 // Writes every chunk, that of a free buffer.
 pub(crate) fn write_heap(heap: &mut [u8], g: Sheet)

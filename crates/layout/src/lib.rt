@@ -5,8 +5,8 @@
 ghost use mathlib.Core.Path.{_≡_};
 ghost use Rattle.sheet.specs.Areas.{lent, before, after, byLengths, result};
 ghost use Rattle.layout.specs.Layout.{laidAreas, layOutOf, layOutPlan, Planned};
+use geometry::sheet::Sheet;
 use sheet::fields;
-use sheet::geometry::Sheet;
 use sheet::opening;
 use sheet::opening::Opened;
 use tags::refusal::Answer;

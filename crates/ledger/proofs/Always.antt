@@ -14,11 +14,11 @@ use Rattle.chunks.specs.Chunk.{grantSize, lawfulSize}
 use Rattle.chunks.specs.declared.chunk.Grant.{Grant}
 use Rattle.area.specs.Record.{nextWord}
 use Rattle.area.specs.declared.record.Stamp.{Stamp}
-use Rattle.sheet.specs.Geometry.{bufferAddress, recordAddress, bufferOf}
+use Rattle.geometry.specs.Sheet.{bufferAddress, recordAddress, bufferOf}
 use Rattle.layout.specs.Layout.{laidAreas}
 use Rattle.holding.specs.Free.{sameGrant}
 use Rattle.holding.specs.Store.{storedAreas}
-use Rattle.sheet.specs.declared.geometry.Sheet.{Sheet}
+use Rattle.geometry.specs.declared.sheet.Sheet.{Sheet}
 use Rattle.area.specs.declared.place.Place.{Place}
 use Rattle.area.specs.declared.place.Place.the-variants as place
 use Rattle.area.proofs.Places.{address-one, place-found}

@@ -18,7 +18,7 @@ use Rattle.chunks.specs.declared.chunk.Grant.the-variants as grant
 use Rattle.area.specs.Record.{recordSize, addressWord}
 use Rattle.area.specs.declared.record.Stamp.{Stamp}
 use Rattle.sheet.specs.Areas.{Areas, result, refusedWith, imageOf, chunkIn}
-use Rattle.sheet.specs.Geometry.{headed, chunkPlace, bufferAddress, recordAddress, bufferOf, recordOf}
+use Rattle.geometry.specs.Sheet.{headed, chunkPlace, bufferAddress, recordAddress, bufferOf, recordOf}
 use Rattle.places.specs.Spot.{spot}
 use Rattle.places.specs.declared.spot.Spot.{Spot}
 use Rattle.allocation.specs.Allocate.{takenChunk, takenHead, takenOf, allocatePlan, grantedAreas, allocateOf}
@@ -26,7 +26,7 @@ use Rattle.holding.specs.Holding.{holding, heldAs, heldChunk, heldOf}
 use Rattle.holding.specs.Free.{sameGrant, freePlan, freedAreas, freeOf}
 use Rattle.holding.specs.Store.{storePlan, storedAreas, storeOf}
 use Rattle.holding.specs.Show.{shownOf}
-use Rattle.sheet.specs.declared.geometry.Sheet.{Sheet}
+use Rattle.geometry.specs.declared.sheet.Sheet.{Sheet}
 use Rattle.area.specs.declared.place.Place.the-variants.{At, Nowhere}
 use Rattle.tags.specs.declared.refusal.Refusal.the-variants.{NoSuchBuffer, NoRoom, BadSize, NotAllocated, OtherGrant, PastClient}
 use Rattle.tags.specs.Refusal.{done}

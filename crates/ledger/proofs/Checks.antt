@@ -16,7 +16,7 @@ use Rattle.tags.specs.Verdict.{verdictNumber, verdictValue}
 use Rattle.chunks.specs.declared.chunk.Grant.the-variants as grant
 use Rattle.area.specs.Record.{recordBytes, stamped, recordWord}
 use Rattle.sheet.specs.Fields.{fieldIs, shaped, sheetOf, sheetBytes, withHead}
-use Rattle.sheet.specs.Limits.{sizesLawful, basesLawful, lawful}
+use Rattle.geometry.specs.Limits.{sizesLawful, basesLawful, lawful}
 use Rattle.sheet.specs.Opening.{measured, numbered, openedOf}
 use Rattle.area.specs.Place.{placeOf}
 use Rattle.verdicts.specs.Judge.{standing, ownedVerdict, chainedVerdict}

@@ -14,11 +14,11 @@ use Rattle.chunks.specs.declared.chunk.Grant.the-variants as grant
 use Rattle.sheet.specs.Areas.{Areas}
 use Rattle.area.specs.Record.{recordBytes, withNext, stamped, recordWord}
 use Rattle.sheet.specs.Fields.{fieldIs, shaped, sheetOf, sheetBytes, withHead}
-use Rattle.sheet.specs.Limits.{sizesLawful, basesLawful, lawful}
+use Rattle.geometry.specs.Limits.{sizesLawful, basesLawful, lawful}
 use Rattle.sheet.specs.Opening.{measured, numbered, openedOf}
 use Rattle.area.specs.Place.{placeOf}
 use Rattle.layout.specs.Layout.{linkTo, laidAreas, layOutPlan, layOutOf}
-use Rattle.sheet.specs.Geometry.{laidSheet}
+use Rattle.geometry.specs.Sheet.{laidSheet}
 use Rattle.allocation.specs.Allocate.{takenChunk, takenHead, takenOf, allocatePlan, grantedAreas, allocateOf}
 use Rattle.holding.specs.Holding.{heldChunk, heldOf}
 use Rattle.holding.specs.Free.{freePlan, freedAreas, freeOf}

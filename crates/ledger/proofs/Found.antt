@@ -20,12 +20,12 @@ use Rattle.chunks.specs.declared.chunk.Grant.the-variants as grant
 use Rattle.tags.specs.declared.verdict.Verdict.{Verdict}
 use Rattle.tags.proofs.Tags.{statePattern, tag-pattern}
 use Rattle.sheet.specs.Areas.{Areas, Image, imageOf}
-use Rattle.sheet.specs.Geometry.{headed, bufferAddress, recordAddress}
+use Rattle.geometry.specs.Sheet.{headed, bufferAddress, recordAddress}
 use Rattle.area.specs.Record.{addressWord}
 use Rattle.verdicts.specs.Chain.{occ, chainOf}
 use Rattle.verdicts.specs.Pairing.{namers, theOne, ownIn, ownOf}
 use Rattle.verdicts.specs.Judge.{standing, chainedVerdict, ownedVerdict, verdictOf}
-use Rattle.sheet.specs.declared.geometry.Sheet.{Sheet}
+use Rattle.geometry.specs.declared.sheet.Sheet.{Sheet}
 use Rattle.tags.specs.declared.ending.Ending.the-variants.{End}
 use Rattle.verdicts.specs.declared.pairing.Own.the-variants.{One}
 use Rattle.area.proofs.Places.{address-one}

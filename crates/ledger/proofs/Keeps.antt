@@ -18,10 +18,10 @@ use Rattle.area.specs.Record.{stamped, withNext, nextAt, bufferAt, nextWord}
 use Rattle.area.specs.declared.record.Stamp.{Stamp}
 use Rattle.area.proofs.Records.{length-stamped, stamped-word, length-withNext, next-same, next-other, next-name}
 use Rattle.sheet.specs.Areas.{Areas, chunkIn}
-use Rattle.sheet.specs.Geometry.{headed, heapLength, chunkPlace, bufferAddress, recordAddress}
-use Rattle.sheet.specs.declared.geometry.Sheet.{Sheet}
+use Rattle.geometry.specs.Sheet.{headed, heapLength, chunkPlace, bufferAddress, recordAddress}
+use Rattle.geometry.specs.declared.sheet.Sheet.{Sheet}
 use Rattle.sheet.proofs.Bytes.{sheet-head}
-use Rattle.sheet.proofs.Sheets.{chunk-inside, record-inside}
+use Rattle.geometry.proofs.Sheets.{chunk-inside, record-inside}
 use Rattle.verdicts.specs.Chain.{occ}
 use Rattle.verdicts.proofs.MetRecords.{occ-cons, occ-here, occ-apart}
 use Rattle.verdicts.proofs.Chains.{Linked, linked-same}

@@ -17,12 +17,12 @@ use Rattle.area.specs.Record.{recordSize, nextAt, bufferAt, addressWord, nextWo
 use Rattle.area.proofs.Records.{flat-word, whole-next, whole-name}
 use Rattle.sheet.specs.Areas.{Areas, Result, result, refusedWith}
 use Rattle.sheet.specs.Fields.{sheetLength}
-use Rattle.sheet.specs.Geometry.{laidSheet, bufferAddress}
-use Rattle.sheet.specs.Limits.{lawful}
+use Rattle.geometry.specs.Sheet.{laidSheet, bufferAddress}
+use Rattle.geometry.specs.Limits.{lawful}
 use Rattle.sheet.specs.Opening.{lengthsRight, measured, numbered, byOpened}
-use Rattle.sheet.specs.declared.geometry.Sheet.{Sheet}
+use Rattle.geometry.specs.declared.sheet.Sheet.{Sheet}
 use Rattle.sheet.specs.declared.opening.Opened.the-variants as opened
-use Rattle.sheet.proofs.Sheets.{lawful-known, buffer-word}
+use Rattle.geometry.proofs.Sheets.{lawful-known, buffer-word}
 use Rattle.layout.specs.Layout.{laidChunk, linkTo, laidRecord, laidAreas, layOutPlan, layOutOf}
 use Rattle.layout.proofs.Layouts.{laid-chunk-long, laid-record-long, link-in, link-out}
 use Rattle.verdicts.proofs.Chains.{Linked}

@@ -13,13 +13,13 @@ use Rattle.chunks.specs.Chunk.{lawfulSize}
 use Rattle.chunks.specs.declared.chunk.Grant.{Grant}
 use Rattle.area.specs.declared.record.Stamp.{Stamp}
 use Rattle.sheet.specs.Areas.{Areas, Result}
-use Rattle.sheet.specs.Geometry.{laidSheet, headed, bufferAddress}
+use Rattle.geometry.specs.Sheet.{laidSheet, headed, bufferAddress}
 use Rattle.verdicts.specs.Chain.{Chain, occ, chainOf}
 use Rattle.verdicts.specs.Pairing.{ownOf}
 use Rattle.verdicts.specs.Judge.{verdictOf}
 use Rattle.allocation.specs.Allocate.{allocateOf}
 use Rattle.holding.specs.Show.{shownOf}
-use Rattle.sheet.specs.declared.geometry.Sheet.{Sheet}
+use Rattle.geometry.specs.declared.sheet.Sheet.{Sheet}
 use Rattle.verdicts.specs.declared.pairing.Own.the-variants.{One}
 use Rattle.tags.specs.declared.refusal.Refusal.the-variants.{NoRoom}
 use Rattle.tags.specs.declared.refusal.Answer.{Answer}

@@ -23,8 +23,8 @@ use Rattle.chunks.specs.declared.chunk.Grant.{Grant}
 use Rattle.chunks.specs.declared.chunk.Grant.the-variants as grant
 use Rattle.area.specs.declared.record.Stamp.{Stamp}
 use Rattle.sheet.specs.Areas.{Areas, Result, Image, imageOf, opening}
-use Rattle.sheet.specs.Geometry.{laidSheet, headed, bufferAddress}
-use Rattle.sheet.specs.declared.geometry.Sheet.{Sheet}
+use Rattle.geometry.specs.Sheet.{laidSheet, headed, bufferAddress}
+use Rattle.geometry.specs.declared.sheet.Sheet.{Sheet}
 use Rattle.sheet.specs.declared.opening.Opened.the-variants as opened
 use Rattle.verdicts.specs.Chain.{occ, chainOf}
 use Rattle.verdicts.specs.Pairing.{ownOf}

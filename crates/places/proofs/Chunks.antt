@@ -8,11 +8,11 @@ use lib.Seq.{sets}
 use Rattle.words.specs.Word.{part}
 use Rattle.words.proofs.Parts.{length-part, part-lent, part-back}
 use Rattle.chunks.specs.Chunk.{ChunkLength, bufferSize}
-use Rattle.sheet.specs.Geometry.{heapLength, chunkPlace}
-use Rattle.sheet.specs.Limits.{Lawful}
+use Rattle.geometry.specs.Sheet.{heapLength, chunkPlace}
+use Rattle.geometry.specs.Limits.{Lawful}
 use Rattle.sheet.specs.Areas.{chunkIn}
-use Rattle.sheet.specs.declared.geometry.Sheet.{Sheet}
-use Rattle.sheet.proofs.Sheets.{chunk-inside, chunk-small, chunk-length}
+use Rattle.geometry.specs.declared.sheet.Sheet.{Sheet}
+use Rattle.geometry.proofs.Sheets.{chunk-inside, chunk-small, chunk-length}
 
 -- its end is a small number
 pub small : (g : Sheet) (i at : ℕ) → Lawful g → i < g .count → at ≡ chunkPlace g i → at + g .chunk ≤ 65536

@@ -2,9 +2,9 @@
 use mathlib.Core.Path.{_≡_}
 use Prim.Native.Nat.{ℕ, _<_}
 use Rattle.sheet.specs.Fields.{sheetLength}
-use Rattle.sheet.specs.Geometry.{chunkPlace, bufferAddress, recordAddress}
+use Rattle.geometry.specs.Sheet.{chunkPlace, bufferAddress, recordAddress}
 use Rattle.sheet.specs.Opening.{Open}
-use Rattle.sheet.specs.declared.geometry.Sheet.{Sheet}
+use Rattle.geometry.specs.declared.sheet.Sheet.{Sheet}
 use Rattle.places.specs.declared.spot.Spot.{Spot}
 
 -- buffer i of a sheet, with its own record j

@@ -5,12 +5,12 @@ ghost use Prim.Native.Nat.{_<_};
 ghost use lib.ListN.{length};
 ghost use lib.Seq.{sets};
 ghost use Rattle.chunks.specs.Chunk.{lawfulSize, freeChunk, grantedChunk};
-ghost use Rattle.sheet.specs.Geometry.{heapLength, chunkPlace};
-ghost use Rattle.sheet.specs.Limits.{Lawful};
+ghost use Rattle.geometry.specs.Sheet.{heapLength, chunkPlace};
+ghost use Rattle.geometry.specs.Limits.{Lawful};
 ghost use Rattle.sheet.specs.Areas.{chunkIn};
 use chunks::chunk;
 use chunks::chunk::Grant;
-use sheet::geometry::Sheet;
+use geometry::sheet::Sheet;
 
 // The chunk of buffer i.
 pub fn chunk<'a>(heap: &'a [u8], g: Sheet, i: usize) -> &'a [u8]

@@ -4,11 +4,11 @@ ghost use Prim.Native.Nat.{_<_};
 ghost use lib.ListN.{length};
 ghost use lib.Seq.{sets};
 ghost use Rattle.area.specs.Record.{nextWord, addressWord, stampHigh, stampLow, withNext, stamped, recordBytes};
-ghost use Rattle.sheet.specs.Geometry.{recordsLength, recordPlace};
-ghost use Rattle.sheet.specs.Limits.{Lawful};
+ghost use Rattle.geometry.specs.Sheet.{recordsLength, recordPlace};
+ghost use Rattle.geometry.specs.Limits.{Lawful};
 use area::record;
 use area::record::Stamp;
-use sheet::geometry::Sheet;
+use geometry::sheet::Sheet;
 
 // The next word of record j.
 pub fn next(records: &[u8], g: Sheet, j: usize) -> u32

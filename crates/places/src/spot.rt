@@ -1,5 +1,5 @@
 // A buffer of a sheet, and its own record.
-use sheet::geometry::Sheet;
+use geometry::sheet::Sheet;
 
 // Buffer `buffer` of a sheet and record `own`, the own record of that buffer.
 pub struct Spot {

@@ -10,9 +10,9 @@ use Rattle.tags.specs.declared.ending.Ending.{Ending}
 use Rattle.tags.specs.declared.ending.Ending.the-variants.{End, Broken, Again}
 use Rattle.tags.specs.declared.refusal.Answer.{Answer}
 use Rattle.tags.specs.declared.refusal.Answer.the-variants.{Value, Refused}
-use Rattle.sheet.specs.Limits.{SizesOf}
+use Rattle.geometry.specs.Limits.{SizesOf}
 use Rattle.sheet.specs.Areas.{Areas, Image, imageOf, openingWithLog}
-use Rattle.sheet.specs.declared.geometry.Sheet.{Sheet}
+use Rattle.geometry.specs.declared.sheet.Sheet.{Sheet}
 use Rattle.sheet.proofs.Opens.{logged-known, by-opened}
 use Rattle.verdicts.specs.Chain.{chainIn, chainOf}
 use Rattle.verdicts.specs.Judge.{verdictOf}

@@ -23,7 +23,7 @@ use Rattle.tags.specs.declared.verdict.Verdict.the-variants.{Free, Whole, Alloc
 use Rattle.tags.proofs.Tags.{decoded-within}
 use Rattle.chunks.specs.Chunk.{bufferSize, freeFill, redzone, guard, tagAt}
 use Rattle.chunks.specs.Judge.{byDifference, byDecoded, r1Of, freeVerdict, zoneVerdict, zoneAfter, sizedVerdict, allocatedVerdict}
-use Rattle.sheet.specs.Geometry.{chunkPlace, recordAddress}
+use Rattle.geometry.specs.Sheet.{chunkPlace, recordAddress}
 use Rattle.sheet.specs.Areas.{Image, chunkAt}
 use Rattle.verdicts.specs.Chain.{chainOf}
 use Rattle.verdicts.specs.Pairing.{ownOf, byOwn}

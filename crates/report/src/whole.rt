@@ -8,9 +8,9 @@ ghost use Rattle.verdicts.specs.Chain.{chainIn};
 ghost use Rattle.verdicts.specs.Marks.{marksIn};
 ghost use Rattle.lines.specs.Text.{Put, writing};
 ghost use Rattle.report.specs.Answer.{reportText};
+use geometry::sheet::Sheet;
 use lines::text;
 use lines::text::Written;
-use sheet::geometry::Sheet;
 use tags::ending::Ending;
 use verdicts::judge;
 

@@ -1,10 +1,10 @@
 -- A sheet that is written field by field, and read back; another head is another sheet. Assumes nothing.
 use mathlib.Core.Path.{_≡_, refl, sym, ap, _∙_}
-use mathlib.Core.Bool.{true, _&&_}
+use mathlib.Core.Bool.{Bool, true, _&&_, and-assoc, and-true as and-right, and-eq-true-iff}
 use mathlib.Core.List.{List, [], _∷_, _++_, append-assoc, append-nil}
 use Prim.Native.Nat.{ℕ, zero, suc, _+_, _^_, _<_}
 use native.Mathlib.Omega.{arith}
-use borrow.Author.Tests.{eq-eqb}
+use borrow.Author.Tests.{eq-eqb, eqb-true}
 use lib.ListN.{length, length-append, getD, set}
 use lib.Seq.{sets}
 use Rattle.words.specs.Word.{part, number, numberAt, bytesOf}
@@ -12,11 +12,22 @@ use Rattle.words.proofs.Numbers.{length-bytesOf, number-back}
 use Rattle.words.proofs.Parts.{part-front, part-right, sets-mid, sets-right, sets-next, sets-three, sets-whole}
 use Rattle.sheet.specs.Fields.{Field, fields, fieldLength, lengthTo, fieldIs, fieldsFrom, shaped, sheetOf}
 use Rattle.sheet.specs.Fields.{field, fieldsBytes, bodiesOf, sheetBytes, sheetLength, bodyAt, withHead}
-use Rattle.sheet.specs.Geometry.{headed, heapLength, recordsLength}
-use Rattle.sheet.specs.Limits.{lawful}
+use Rattle.geometry.specs.Sheet.{headed, heapLength, recordsLength}
+use Rattle.geometry.specs.Limits.{lawful}
 use Rattle.sheet.specs.Opening.{measured, numbered, openedOf}
-use Rattle.sheet.specs.declared.geometry.Sheet.{Sheet}
+use Rattle.geometry.specs.declared.sheet.Sheet.{Sheet}
 use Rattle.sheet.specs.declared.opening.Opened.the-variants as opened
+
+-- ---- tested
+
+-- eight tests in a row, as the code joins them and as the rule does
+pub eight : {a b c d e f g h a' b' c' d' e' f' g' h' : Bool} → a ≡ a' → b ≡ b' → c ≡ c' → d ≡ d' → e ≡ e' → f ≡ f' → g ≡ g' → h ≡ h'
+    → a && b && c && d && e && f && g && h ≡ a' && (b' && (c' && (d' && (e' && (f' && (g' && (h' && true)))))))
+eight ea eb ec ed ee ef eg eh = rw (ea, eb, ec, ed, ee, ef, eg, eh) (simp (and-assoc, and-right))
+
+pub shaped-long : (s : List ℕ) → shaped s ≡ true → length s ≡ sheetLength
+unfolding shaped
+shaped-long s e = eqb-true (length s) sheetLength (and-eq-true-iff _ _ .0 e .0)
 
 -- ---- written
 

@@ -11,16 +11,17 @@ use Rattle.tags.specs.declared.refusal.Refusal.{Refusal}
 use Rattle.tags.specs.declared.refusal.Refusal.the-variants.{BadSheet, BadNumber, BadLength}
 use Rattle.sheet.specs.Opening.{Open, lengthsRight, areasOf, lengthsOf}
 use Rattle.sheet.specs.Fields.{sheetLength, shaped, sheetOf}
-use Rattle.sheet.specs.Limits.{lawful}
-use Rattle.sheet.specs.Geometry.{heapLength, recordsLength}
+use Rattle.geometry.specs.Limits.{lawful}
+use Rattle.geometry.specs.Sheet.{heapLength, recordsLength}
 use Rattle.sheet.specs.Opening.{measured, numbered, openedOf, byOpened, openedWithLog}
 use Rattle.area.specs.Log.{logMost, logRight}
 use Rattle.area.proofs.Logs.{log-most}
-use Rattle.sheet.specs.declared.geometry.Sheet.{Sheet}
+use Rattle.geometry.specs.declared.sheet.Sheet.{Sheet}
 use Rattle.sheet.specs.declared.opening.Lengths.the-variants as lengths
 use Rattle.sheet.specs.declared.opening.Opened.{Opened}
 use Rattle.sheet.specs.declared.opening.Opened.the-variants as opened
-use Rattle.sheet.proofs.Sheets.{lawful-known, shaped-long}
+use Rattle.geometry.proofs.Sheets.{lawful-known}
+use Rattle.sheet.proofs.Bytes.{shaped-long}
 
 -- numbers that pass the tests 2 and 3
 pub numbered-known : (g : Sheet) (h r : ℕ) (o : Sheet) → numbered g h r ≡ opened.Sheet o → (o ≡ g) × Open h r o

@@ -8,9 +8,9 @@ use denote.Triple.Both.{Both}
 pub use Rattle.area.specs.Place.{PartAt}
 use Rattle.words.specs.Word.{part}
 use Rattle.tags.specs.declared.refusal.Refusal.{Refusal}
-use Rattle.sheet.specs.Geometry.{chunkPlace}
+use Rattle.geometry.specs.Sheet.{chunkPlace}
 use Rattle.sheet.specs.Opening.{openedOf, openedWithLog, byOpened}
-use Rattle.sheet.specs.declared.geometry.Sheet.{Sheet}
+use Rattle.geometry.specs.declared.sheet.Sheet.{Sheet}
 use Rattle.sheet.specs.declared.opening.Opened.{Opened}
 
 pub record Areas : Type 0 where

@@ -7,10 +7,10 @@ use lib.Dec.{eqb}
 use Rattle.area.specs.Log.{logRight}
 use Rattle.tags.specs.declared.refusal.Refusal.{Refusal}
 use Rattle.tags.specs.declared.refusal.Refusal.the-variants.{BadSheet, BadNumber, BadLength}
-use Rattle.sheet.specs.Geometry.{heapLength, recordsLength}
+use Rattle.geometry.specs.Sheet.{heapLength, recordsLength}
 use Rattle.sheet.specs.Fields.{shaped, sheetOf}
-use Rattle.sheet.specs.Limits.{lawful, Lawful}
-use Rattle.sheet.specs.declared.geometry.Sheet.{Sheet}
+use Rattle.geometry.specs.Limits.{lawful, Lawful}
+use Rattle.geometry.specs.declared.sheet.Sheet.{Sheet}
 use Rattle.sheet.specs.declared.opening.Lengths.{Lengths}
 use Rattle.sheet.specs.declared.opening.Lengths.the-variants as lengths
 use Rattle.sheet.specs.declared.opening.Opened.{Opened}

@@ -5,8 +5,8 @@ ghost use Prim.Native.Nat.{_+_, _≤_};
 ghost use lib.ListN.{length};
 ghost use lib.Seq.{sets};
 ghost use Rattle.sheet.specs.Fields.{fieldNumber, fieldIs, shaped, sheetOf, field, sheetBytes, sheetLength, withHead};
-ghost use Rattle.sheet.specs.Limits.{Lawful};
-use crate::geometry::Sheet;
+ghost use Rattle.geometry.specs.Limits.{Lawful};
+use geometry::sheet::Sheet;
 use words::word;
 
 // What a field has before its body, and with a body of four bytes, of two.

@@ -1,11 +1,11 @@
 // The opening of an image: every call begins with the tests 1, 2 and 3.
 ghost use mathlib.Core.Path.{_≡_};
-ghost use Rattle.sheet.specs.Limits.{Lawful};
+ghost use Rattle.geometry.specs.Limits.{Lawful};
 ghost use Rattle.sheet.specs.Opening.{measured, numbered, openedOf, openedWithLog, areasOf, lengthsOf};
 use crate::fields;
-use crate::geometry::Sheet;
-use crate::limits;
 use area::log;
+use geometry::limits;
+use geometry::sheet::Sheet;
 use tags::refusal::Refusal;
 
 // An image that passed the tests 1 to 3, or why it did not.

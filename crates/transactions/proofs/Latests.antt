@@ -13,11 +13,11 @@ use Rattle.area.specs.declared.place.Place.the-variants as place
 use Rattle.tags.specs.declared.refusal.Refusal.the-variants.{Damage}
 use Rattle.tags.specs.declared.verdict.Verdict.the-variants.{NotOneRecord}
 use Rattle.sheet.specs.Areas.{Areas, openingWithLog}
-use Rattle.sheet.specs.Geometry.{recordAddress}
+use Rattle.geometry.specs.Sheet.{recordAddress}
 use Rattle.sheet.specs.Opening.{Open}
-use Rattle.sheet.specs.declared.geometry.Sheet.{Sheet}
+use Rattle.geometry.specs.declared.sheet.Sheet.{Sheet}
 use Rattle.sheet.proofs.Opens.{logged-known, by-opened}
-use Rattle.sheet.proofs.Sheets.{record-inside}
+use Rattle.geometry.proofs.Sheets.{record-inside}
 use Rattle.verdicts.specs.Pairing.{ownIn, byOwn}
 use Rattle.verdicts.specs.declared.pairing.Own.{Own}
 use Rattle.verdicts.specs.declared.pairing.Own.the-variants.{One, NotOne}

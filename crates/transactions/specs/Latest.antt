@@ -13,8 +13,8 @@ use Rattle.area.specs.Record.{recordSize, stampHigh, stampLow}
 use Rattle.area.specs.Log.{rowSize, rowsOf, rowRecord, rowUptime}
 use Rattle.verdicts.specs.Pairing.{ownIn, byOwn}
 use Rattle.sheet.specs.Areas.{Areas, PartAt, openingWithLog, byImage}
-use Rattle.sheet.specs.Geometry.{recordAddress}
-use Rattle.sheet.specs.declared.geometry.Sheet.{Sheet}
+use Rattle.geometry.specs.Sheet.{recordAddress}
+use Rattle.geometry.specs.declared.sheet.Sheet.{Sheet}
 use Rattle.area.specs.declared.place.Place.{Place}
 use Rattle.area.specs.declared.place.Place.the-variants as place
 use Rattle.tags.specs.declared.refusal.Refusal.the-variants.{NoSuchBuffer, Damage, WideStamp}

@@ -12,7 +12,7 @@ use Rattle.area.specs.Place.{placeAddress, placeOf}
 use Rattle.area.specs.Record.{recordSize, nextWord}
 use Rattle.verdicts.specs.Chain.{occ, Chain, stop, meets, ChainRule, chainFrom, chainAfter, chainIn}
 use Rattle.verdicts.specs.Walk.{toOne, areaOf, ofPlace, endingAt, wordValues, Gives}
-use Rattle.sheet.specs.declared.geometry.Sheet.{Sheet}
+use Rattle.geometry.specs.declared.sheet.Sheet.{Sheet}
 use Rattle.area.specs.declared.place.Place.{Place}
 use Rattle.area.specs.declared.place.Place.the-variants.{At, Nowhere}
 use Rattle.tags.specs.declared.ending.Ending.{Ending}

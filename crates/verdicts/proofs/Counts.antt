@@ -11,8 +11,8 @@ use lib.Dec.{eqb}
 use lib.ListN.{length, getD, set, replicate}
 use Rattle.area.specs.Record.{addressWord}
 use Rattle.area.proofs.Places.{address-one}
-use Rattle.sheet.specs.Geometry.{bufferAddress}
-use Rattle.sheet.specs.declared.geometry.Sheet.{Sheet}
+use Rattle.geometry.specs.Sheet.{bufferAddress}
+use Rattle.geometry.specs.declared.sheet.Sheet.{Sheet}
 use Rattle.verdicts.specs.Chain.{occ, chainIn, metBy}
 use Rattle.verdicts.specs.Walk.{table, toOne, areaOf}
 use Rattle.verdicts.specs.Pairing.{namers}

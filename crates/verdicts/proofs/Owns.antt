@@ -16,9 +16,9 @@ use Rattle.chunks.specs.Chunk.{tagAt}
 use Rattle.tags.specs.Tag.{patternOf}
 use Rattle.tags.specs.declared.verdict.Verdict.{Verdict}
 use Rattle.tags.specs.declared.verdict.Verdict.the-variants.{NotOneRecord, BadTag}
-use Rattle.sheet.specs.Geometry.{bufferAddress, recordAddress}
+use Rattle.geometry.specs.Sheet.{bufferAddress, recordAddress}
 use Rattle.sheet.specs.Areas.{Image, chunkAt}
-use Rattle.sheet.specs.declared.geometry.Sheet.{Sheet}
+use Rattle.geometry.specs.declared.sheet.Sheet.{Sheet}
 use Rattle.verdicts.specs.Chain.{chainOf}
 use Rattle.verdicts.specs.Pairing.{namers, theOne, ownIn, ownOf, byOwn}
 use Rattle.verdicts.specs.Marks.{toTwo, namesAfter}

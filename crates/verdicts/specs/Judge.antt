@@ -10,7 +10,7 @@ use Rattle.tags.specs.declared.tag.Pattern.{Pattern}
 use Rattle.tags.specs.declared.tag.Pattern.the-variants as pattern
 use Rattle.tags.specs.declared.verdict.Verdict.{Verdict}
 use Rattle.tags.specs.declared.verdict.Verdict.the-variants.{NotOneRecord, BadTag, FreedTwice, OffChain, OnChain}
-use Rattle.sheet.specs.Geometry.{recordAddress}
+use Rattle.geometry.specs.Sheet.{recordAddress}
 use Rattle.sheet.specs.Areas.{Image, chunkAt}
 use Rattle.verdicts.specs.Chain.{Chain, chainOf, metBy}
 use Rattle.verdicts.specs.Pairing.{ownOf, byOwn}

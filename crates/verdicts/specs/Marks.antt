@@ -4,8 +4,8 @@ use mathlib.Core.List.{List}
 use Prim.Native.Nat.{ℕ, zero, suc, _+_, _/_, _%_}
 use lib.Dec.{eqb}
 use lib.ListN.{length}
-use Rattle.sheet.specs.Geometry.{bufferAddress}
-use Rattle.sheet.specs.declared.geometry.Sheet.{Sheet}
+use Rattle.geometry.specs.Sheet.{bufferAddress}
+use Rattle.geometry.specs.declared.sheet.Sheet.{Sheet}
 use Rattle.area.specs.Record.{addressWord}
 use Rattle.verdicts.specs.Chain.{chainIn}
 use Rattle.verdicts.specs.Walk.{areaOf}

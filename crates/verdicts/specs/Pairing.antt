@@ -3,9 +3,9 @@ use mathlib.Core.Bool.{cond}
 use mathlib.Core.List.{List, [], _∷_}
 use Prim.Native.Nat.{ℕ, zero, suc}
 use lib.Dec.{eqb}
-use Rattle.sheet.specs.Geometry.{bufferAddress}
+use Rattle.geometry.specs.Sheet.{bufferAddress}
 use Rattle.sheet.specs.Areas.{Image}
-use Rattle.sheet.specs.declared.geometry.Sheet.{Sheet}
+use Rattle.geometry.specs.declared.sheet.Sheet.{Sheet}
 use Rattle.area.specs.Record.{addressWord}
 use Rattle.verdicts.specs.declared.pairing.Own.{Own}
 use Rattle.verdicts.specs.declared.pairing.Own.the-variants.{One, NotOne}

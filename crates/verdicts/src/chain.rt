@@ -2,13 +2,13 @@
 ghost use mathlib.Core.Path.{_≡_};
 ghost use Prim.Native.Nat.{_+_, _*_, _%_, _≤_};
 ghost use lib.ListN.{length};
-ghost use Rattle.sheet.specs.Geometry.{recordsLength};
-ghost use Rattle.sheet.specs.Limits.{Lawful};
+ghost use Rattle.geometry.specs.Sheet.{recordsLength};
+ghost use Rattle.geometry.specs.Limits.{Lawful};
 ghost use Rattle.verdicts.specs.Walk.{wordValues, Walkable, WalkOf, Stays, WalkIn};
 use area::place;
 use area::place::Place;
 use area::record;
-use sheet::geometry::Sheet;
+use geometry::sheet::Sheet;
 use tags::ending::Ending;
 
 // How many records a chain met, and how it ends.

@@ -4,16 +4,16 @@ ghost use mathlib.Core.Path.{_≡_};
 ghost use mathlib.Core.List.{[]};
 ghost use Prim.Native.Nat.{_<_};
 ghost use lib.ListN.{length, replicate};
-ghost use Rattle.sheet.specs.Geometry.{recordsLength};
-ghost use Rattle.sheet.specs.Limits.{Lawful};
+ghost use Rattle.geometry.specs.Sheet.{recordsLength};
+ghost use Rattle.geometry.specs.Limits.{Lawful};
 ghost use Rattle.verdicts.specs.Chain.{chainIn};
 ghost use Rattle.verdicts.specs.Walk.{areaOf};
 ghost use Rattle.verdicts.specs.Marks.{namesAfter, marksIn, metDigit, namesDigit, withName};
 use crate::chain;
 use crate::chain::Walked;
 use area::place::Place;
+use geometry::sheet::Sheet;
 use places::records;
-use sheet::geometry::Sheet;
 
 // Whether the chain meets the record of a byte.
 pub(crate) fn is_met(b: u8) -> bool

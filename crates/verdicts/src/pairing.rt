@@ -2,11 +2,11 @@
 ghost use mathlib.Core.Path.{_≡_};
 ghost use Prim.Native.Nat.{_<_};
 ghost use lib.ListN.{length};
-ghost use Rattle.sheet.specs.Geometry.{recordsLength};
-ghost use Rattle.sheet.specs.Limits.{Lawful};
+ghost use Rattle.geometry.specs.Sheet.{recordsLength};
+ghost use Rattle.geometry.specs.Limits.{Lawful};
 ghost use Rattle.verdicts.specs.Pairing.{ownIn};
+use geometry::sheet::Sheet;
 use places::records;
-use sheet::geometry::Sheet;
 
 // A buffer's own record: the one record that names the buffer. Where none or several do, it has none.
 pub enum Own {

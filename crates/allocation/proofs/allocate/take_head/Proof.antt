@@ -5,7 +5,7 @@ use borrow.Author.Needs.{needs}
 use lib.ListN.{length}
 use Rattle.area.proofs.Places.{place-found}
 use Rattle.sheet.specs.Areas.{imageIn}
-use Rattle.sheet.specs.Geometry.{bufferOf}
+use Rattle.geometry.specs.Sheet.{bufferOf}
 use Rattle.places.proofs.Chunks.{chunk-long}
 use Rattle.allocation.specs.Allocate.{takenHead}
 use Rattle.allocation.proofs.Takings.{head-taken}

@@ -7,8 +7,8 @@ use Rattle.chunks.specs.Chunk.{ChunkLength, tagAt}
 use Rattle.area.specs.declared.place.Place.the-variants.{At}
 use Rattle.area.proofs.Places.{place-found}
 use Rattle.sheet.specs.Areas.{imageIn, chunkIn}
-use Rattle.sheet.specs.Geometry.{recordOf}
-use Rattle.sheet.proofs.Sheets.{chunk-length}
+use Rattle.geometry.specs.Sheet.{recordOf}
+use Rattle.geometry.proofs.Sheets.{chunk-length}
 use Rattle.places.proofs.Chunks.{chunk-long}
 use Rattle.holding.specs.Holding.{heldChunk}
 use Rattle.holding.proofs.Holdings.{chunk-named, chunk-unnamed}

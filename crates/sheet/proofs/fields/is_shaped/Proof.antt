@@ -1,7 +1,7 @@
 -- The eight fields are tested where each stands behind the one before. Assumes nothing.
 use borrow.Author.Tests.{eq-eqb, ne-eqb}
 use borrow.Author.Needs.{needs}
-use Rattle.sheet.proofs.Sheets.{eight}
+use Rattle.sheet.proofs.Bytes.{eight}
 use Rattle.sheet.specs.Fields.{shaped}
 use Rattle.sheet.proofs.fields.is_shaped.Statement.{statement}
 use Rattle.sheet.proofs.fields.is_shaped.Tie as tie

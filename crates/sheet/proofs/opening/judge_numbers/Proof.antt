@@ -1,7 +1,7 @@
 -- The numbers are tested, and then the lengths. Assumes nothing.
 use mathlib.Core.Path.{sym, _∙_}
 use borrow.Author.Needs.{needs}
-use Rattle.sheet.proofs.Sheets.{lawful-known}
+use Rattle.geometry.proofs.Sheets.{lawful-known}
 use Rattle.sheet.specs.Opening.{numbered}
 use Rattle.sheet.proofs.opening.judge_numbers.Statement.{statement}
 use Rattle.sheet.proofs.opening.judge_numbers.Tie as tie

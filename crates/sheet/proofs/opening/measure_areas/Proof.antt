@@ -1,8 +1,8 @@
 -- The lengths of a lawful sheet are small. Assumes nothing.
 use mathlib.Core.Path.{sym, _∙_}
 use borrow.Author.Needs.{needs}
-use Rattle.sheet.proofs.Sheets.{lawful-known}
-use Rattle.sheet.specs.Limits.{Lawful}
+use Rattle.geometry.proofs.Sheets.{lawful-known}
+use Rattle.geometry.specs.Limits.{Lawful}
 use Rattle.sheet.specs.Opening.{areasOf}
 use Rattle.sheet.proofs.opening.measure_areas.Statement.{statement}
 use Rattle.sheet.proofs.opening.measure_areas.Tie as tie

@@ -9,8 +9,8 @@ use borrow.Author.Needs.{needs}
 use lib.ListN.{length, length-set, length-replicate}
 use Rattle.area.specs.Record.{addressWord}
 use Rattle.area.proofs.Places.{place-found, place-missed}
-use Rattle.sheet.specs.Geometry.{bufferAddress}
-use Rattle.sheet.proofs.Sheets.{chunk-length}
+use Rattle.geometry.specs.Sheet.{bufferAddress}
+use Rattle.geometry.proofs.Sheets.{chunk-length}
 use Rattle.verdicts.proofs.Counts.{small-at, Counted, counted-none, counted-hit, counted-miss}
 use Rattle.verdicts.proofs.marks.count_names.Statement.{statement}
 use Rattle.verdicts.proofs.marks.count_names.Tie as tie

@@ -6,7 +6,7 @@ use native.Mathlib.Numerals.{add-one}
 use native.Mathlib.Omega.{arith}
 use borrow.Author.Needs.{needs}
 use Rattle.area.specs.Record.{addressWord}
-use Rattle.sheet.specs.Geometry.{bufferAddress}
+use Rattle.geometry.specs.Sheet.{bufferAddress}
 use Rattle.verdicts.proofs.Owns.{Found, found-none, found-hit, found-miss, found-one, found-other}
 use Rattle.verdicts.proofs.pairing.own_record.Statement.{statement}
 use Rattle.verdicts.proofs.pairing.own_record.Tie as tie
