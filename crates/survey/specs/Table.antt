@@ -1,0 +1,28 @@
+-- The findings of an image as numbers. Assumes nothing.
+use mathlib.Core.List.{List, [], _∷_}
+use Prim.Native.Nat.{ℕ, _*_}
+use lib.Seq.{sets}
+use Rattle.words.specs.Word.{flat}
+use Rattle.tags.specs.Verdict.{verdictNumber, verdictValue}
+use Rattle.tags.specs.declared.verdict.Verdict.{Verdict}
+use Rattle.tags.specs.Filling.{Filling, filling, unfilled, ifRoom}
+use Rattle.tags.specs.declared.refusal.Refusal.the-variants.{ShortOutput}
+use Rattle.tags.specs.declared.refusal.Answer.{Answer}
+use Rattle.tags.specs.declared.refusal.Answer.the-variants.{Value, Refused}
+use Rattle.sheet.specs.Areas.{Areas, Image, opening, byImage}
+use Rattle.verdicts.specs.Judge.{verdictOf}
+
+-- K12 (findings as numbers): the index, the verdict's number, and its size or offset, else 0
+abbrev pub rowOf : ℕ → Verdict → List ℕ
+rowOf i v = i ∷ verdictNumber v ∷ verdictValue v ∷ []
+
+-- K12 (three for each buffer, from 3 i on): the numbers of all findings of an image
+unfoldable pub tableOf : Image → List ℕ
+tableOf m = flat (m .sheet .count) (λ i. rowOf i (verdictOf m i))
+
+-- K12, E8: the same tests as inspect has; the need is three numbers for each buffer
+unfoldable pub tabulateOf : Areas → List ℕ → Filling Answer ℕ
+tabulateOf a rows =
+    byImage (opening a) a
+    (λ m. ifRoom (m .sheet .count * 3) rows (filling (Value (m .sheet .count)) (sets rows 0 (tableOf m))) (Refused ShortOutput))
+    (λ why. unfilled (Refused why) rows)
