@@ -1,10 +1,10 @@
-// The findings of an image: for each buffer its index and its verdict, with its size or offset, as a struct or as three
-// numbers. One pass over the records, one walk of the chain, one pass over the heap.
+// The findings of an image: for each buffer its index and its verdict, with its size or offset. One pass over the records, one
+// walk of the chain, one pass over the heap.
 ghost use mathlib.Core.Path.{_≡_};
-ghost use Prim.Native.Nat.{_+_, _*_, _≤_, _<_};
-ghost use lib.ListN.{length};
-ghost use lib.Seq.{sets};
+ghost use Prim.Native.Nat.{_≤_, _<_};
+ghost use lib.ListN.{length, take};
 ghost use Rattle.tags.specs.Filling.{filling};
+<<<<<<< HEAD
 ghost use Rattle.sheet.specs.Areas.{before};
 ghost use Rattle.sheet.specs.Opening.{Open};
 ghost use Rattle.verdicts.specs.Pairing.{Paired};
@@ -12,16 +12,30 @@ ghost use Rattle.verdicts.specs.Walk.{marksOf};
 ghost use Rattle.verdicts.specs.Judge.{imageChain};
 ghost use Rattle.image.specs.Inspect.{inspectOf, foundBy, started, Ready, Begins, numbersOf, rowsOf, tableOf, tabulateOf, surveyOf};
 use geometry::sheet::Sheet;
+=======
+ghost use Rattle.sheet.specs.Geometry.{recordsLength};
+ghost use Rattle.sheet.specs.Limits.{Lawful};
+ghost use Rattle.sheet.specs.Areas.{before, imageIn};
+ghost use Rattle.verdicts.specs.Chain.{chainIn};
+ghost use Rattle.verdicts.specs.Marks.{marksIn};
+ghost use Rattle.verdicts.specs.Judge.{verdictOf};
+ghost use Rattle.image.specs.Inspect.{inspectOf, countOf, answerOf, foundBy, JudgesImage, Judges, Begins};
+use sheet::geometry::Sheet;
+>>>>>>> reader
 use sheet::opening;
 use sheet::opening::Opened;
 use tags::ending::Ending;
 use tags::refusal::Answer;
 use tags::refusal::Refusal;
+<<<<<<< HEAD
 use tags::verdict;
 use tags::verdict::Verdict;
 use verdicts::chain;
+=======
+use tags::verdict::Verdict;
+>>>>>>> reader
 use verdicts::judge;
-use verdicts::pairing;
+use verdicts::marks;
 
 // What is found of a buffer: its index, and its verdict, with its size or offset.
 pub struct Finding {
@@ -29,64 +43,26 @@ pub struct Finding {
     pub verdict: Verdict,
 }
 
-// What an inspection starts from: the sheet's numbers, how many buffers are judged, how many records the chain meets and how it
-// ends, and the answer. No buffer is judged where it is refused.
-pub struct Start {
-    pub sheet: Sheet,
-    pub count: usize,
-    pub met: usize,
-    pub ending: Ending,
-    pub answer: Answer,
-}
-
-// That, with each buffer's own record and the records that the chain met.
-pub struct Begun {
-    pub start: Start,
-    pub pairs: [u16; 512],
-    pub marks: [u8; 512],
-}
-
-// The number of buffers of an image, how many records its chain meets and how it ends; the findings stand in the lent row.
-pub struct Overview {
-    pub count: usize,
-    pub met: usize,
-    pub ending: Ending,
-}
-
-// A survey, or why there is none.
-pub enum Surveyed {
-    Image(Overview),
+// What the buffers are judged by beside the marks: the numbers of the image and how its chain ends. Or why none is judged.
+pub enum Begun {
+    Image(Sheet, Ending),
     Refused(Refusal),
 }
 
-// An inspection that is refused.
-fn refuse(why: Refusal) -> Begun
-    ensures { λ r. ⌜ (r .start .count ≡ 0) × (r .start .answer ≡ Answer.Refused why) ⌝ }
+// Marks the records and buffers of an image at the start of a longer row of marks, and tells how the chain ends.
+fn mark_first(records: &[u8], g: Sheet, marks: &mut [u8]) -> Ending
+    requires { ⌜ Lawful g ⌝ }
+    requires { ⌜ length (now records) ≡ recordsLength g ⌝ }
+    requires { ⌜ g .count ≤ length (now marks) ⌝ }
+    ensures ending { λ r. ⌜ r ≡ chainIn g (now (records .entry)) .ending ⌝ }
+    ensures marks { λ _. ⌜ take (g .count) (now (marks .exit)) ≡ marksIn g (now (records .entry)) ⌝ }
 {
-    let sheet = Sheet {
-        cache: 0,
-        heap: 0,
-        records: 0,
-        size: 0,
-        chunk: 0,
-        count: 0,
-        head: 0,
-        flags: 0,
-    };
-    let start = Start {
-        sheet,
-        count: 0,
-        met: 0,
-        ending: Ending::End,
-        answer: Answer::Refused(why),
-    };
-    Begun {
-        start,
-        pairs: [0u16; 512],
-        marks: [0u8; 512],
-    }
+    let n = g.count;
+    let walked = marks::mark(records, g, &mut marks[..n]);
+    walked.ending
 }
 
+<<<<<<< HEAD
 // Pairs the buffers of an open image with their records, and walks its chain.
 fn note(records: &[u8], g: Sheet) -> Begun
     requires { ⌜ Open (g .count * g .chunk) (length (now records)) g ⌝ }
@@ -124,36 +100,80 @@ fn note(records: &[u8], g: Sheet) -> Begun
 // Opens an image, and readies all that its buffers are judged by, for a lent row of so many findings.
 fn begin(sheet: &[u8], heap: &[u8], records: &[u8], rows: usize) -> Begun
     ensures { λ r. ⌜ Begins (before sheet heap records) rows r ⌝ }
+=======
+// Opens an image and marks its records and buffers, for a lent row of so many findings.
+fn begin(sheet: &[u8], heap: &[u8], records: &[u8], rows: usize, marks: &mut [u8; 512]) -> Begun
+    requires { ⌜ length (now marks) ≡ 512 ⌝ }
+    ensures { λ r. ⌜ Begins (before sheet heap records) rows r (now (marks .exit)) ⌝ }
+>>>>>>> reader
 {
     let opened = opening::open(sheet, heap.len(), records.len());
     match opened {
-        Opened::Refused(why) => refuse(why),
+        Opened::Refused(why) => Begun::Refused(why),
         Opened::Sheet(g) => {
             if rows < g.count {
-                return refuse(Refusal::ShortOutput);
+                return Begun::Refused(Refusal::ShortOutput);
             }
-            note(records, g)
+            let ending = mark_first(records, g, marks);
+            Begun::Image(g, ending)
         }
     }
 }
 
-// The finding of buffer i.
-fn find<'a>(
-    heap: &[u8],
-    start: Start,
-    pairs: &'a [u16; 512],
-    marks: &'a [u8; 512],
-    i: usize,
-) -> Finding
-    requires { ⌜ Ready (length (now heap)) start (now pairs) ⌝ }
-    requires { ⌜ i < start .count ⌝ }
-    ensures { λ r. ⌜ r ≡ foundBy (now (heap .entry)) start (now (pairs .entry)) (now (marks .entry)) i ⌝ }
+// How many buffers are judged.
+fn count_of(begun: Begun) -> usize
+    ensures { λ r. ⌜ r ≡ countOf begun ⌝ }
 {
-    let own = pairing::own_record(pairs, i);
-    let g = start.sheet;
-    let ending = start.ending;
-    let verdict = judge::judge_buffer(heap, g, i, own, marks, ending);
-    Finding { index: i, verdict }
+    match begun {
+        Begun::Image(g, _) => g.count,
+        Begun::Refused(_) => 0,
+    }
+}
+
+// The verdict on buffer i of an image, by the first n of the marks.
+fn judge_first(
+    heap: &[u8],
+    records: &[u8],
+    g: Sheet,
+    i: usize,
+    marks: &[u8],
+    ending: Ending,
+) -> Verdict
+    requires { ⌜ JudgesImage (now heap) (now records) (now marks) g ending ⌝ }
+    requires { ⌜ i < g .count ⌝ }
+    ensures { λ r. ⌜ r ≡ verdictOf (imageIn g (heap .entry) (records .entry)) i ⌝ }
+{
+    let n = g.count;
+    judge::judge_buffer(heap, records, g, i, &marks[..n], ending)
+}
+
+// The finding of buffer i. Where no buffer is judged there is none, and this is not called.
+fn find(heap: &[u8], records: &[u8], begun: Begun, marks: &[u8; 512], i: usize) -> Finding
+    requires { ⌜ Judges (now heap) (now records) (now marks) begun ⌝ }
+    requires { ⌜ i < countOf begun ⌝ }
+    ensures { λ r. ⌜ r ≡ foundBy (now (heap .entry)) (now (records .entry)) begun i ⌝ }
+{
+    match begun {
+        Begun::Refused(_) => Finding {
+            index: i,
+            verdict: Verdict::NotOneRecord,
+        },
+        Begun::Image(g, ending) => {
+            let verdict = judge_first(heap, records, g, i, marks, ending);
+            Finding { index: i, verdict }
+        }
+    }
+}
+
+// What an inspection answers: how many buffers it judged, or why none.
+fn answer_of(begun: Begun) -> Answer
+    requires { ⌜ countOf begun ≤ 4294967295 ⌝ }
+    ensures { λ r. ⌜ r ≡ answerOf begun ⌝ }
+{
+    match begun {
+        Begun::Image(g, _) => Answer::Value(g.count as u32),
+        Begun::Refused(why) => Answer::Refused(why),
+    }
 }
 
 // Fills a lent row of findings, one for each buffer, or refuses and leaves it as it was. Rows past the last buffer stay.
@@ -161,112 +181,13 @@ pub fn inspect(sheet: &[u8], heap: &[u8], records: &[u8], rows: &mut [Finding]) 
     ensures { λ r. ⌜ filling r (now (rows .exit))
         ≡ inspectOf (before sheet heap records) (now (rows .entry)) ⌝ }
 {
-    let begun = begin(sheet, heap, records, rows.len());
-    let start = begun.start;
-    let pairs = begun.pairs;
-    let marks = begun.marks;
-    let n = start.count;
+    let mut marks = [0u8; 512];
+    let begun = begin(sheet, heap, records, rows.len(), &mut marks);
+    let n = count_of(begun);
     let mut i = 0;
     while i < n {
-        rows[i] = find(heap, start, &pairs, &marks, i);
+        rows[i] = find(heap, records, begun, &marks, i);
         i += 1;
     }
-    start.answer
-}
-
-// Writes the numbers of a finding.
-fn put_row(rows: &mut [u32], f: Finding)
-    requires { ⌜ f .index < 512 ⌝ }
-    requires { ⌜ f .index * 3 + 3 ≤ length (now rows) ⌝ }
-    ensures { λ _. ⌜ now (rows .exit) ≡ sets (now (rows .entry)) (f .index * 3) (numbersOf f) ⌝ }
-{
-    let i = f.index;
-    let v = f.verdict;
-    let at = i * 3;
-    rows[at] = i as u32;
-    rows[at + 1] = verdict::number(v);
-    rows[at + 2] = verdict::value(v);
-}
-
-// Judges every buffer and writes its numbers.
-fn judge_rows<'a>(
-    heap: &[u8],
-    start: Start,
-    pairs: &'a [u16; 512],
-    marks: &'a [u8; 512],
-    rows: &mut [u32],
-)
-    requires { ⌜ Ready (length (now heap)) start (now pairs) ⌝ }
-    requires { ⌜ start .count * 3 ≤ length (now rows) ⌝ }
-    ensures { λ _. ⌜ now (rows .exit)
-        ≡ sets (now (rows .entry)) 0
-        (rowsOf (foundBy (now (heap .entry)) start (now (pairs .entry)) (now (marks .entry)))
-        (start .count)) ⌝ }
-{
-    let n = start.count;
-    let mut i = 0;
-    while i < n {
-        put_row(rows, find(heap, start, pairs, marks, i));
-        i += 1;
-    }
-}
-
-// Judges every buffer of an open image, writes the numbers, and answers what the judging started from.
-pub(crate) fn survey_open(heap: &[u8], records: &[u8], g: Sheet, rows: &mut [u32]) -> Start
-    requires { ⌜ Open (length (now heap)) (length (now records)) g ⌝ }
-    requires { ⌜ g .count * 3 ≤ length (now rows) ⌝ }
-    ensures rows { λ _. ⌜ now (rows .exit)
-        ≡ sets (now (rows .entry)) 0 (tableOf g (now (heap .entry)) (now (records .entry))) ⌝ }
-    ensures start { λ r. ⌜ r ≡ started g (now (records .entry)) ⌝ }
-{
-    let begun = note(records, g);
-    let start = begun.start;
-    let pairs = begun.pairs;
-    let marks = begun.marks;
-    judge_rows(heap, start, &pairs, &marks, rows);
-    start
-}
-
-// Fills a lent row of numbers, three for each buffer, or refuses and leaves it as it was.
-pub fn tabulate(sheet: &[u8], heap: &[u8], records: &[u8], rows: &mut [u32]) -> Answer
-    ensures { λ r. ⌜ filling r (now (rows .exit))
-        ≡ tabulateOf (before sheet heap records) (now (rows .entry)) ⌝ }
-{
-    let opened = opening::open(sheet, heap.len(), records.len());
-    match opened {
-        Opened::Refused(why) => Answer::Refused(why),
-        Opened::Sheet(g) => {
-            let n = g.count;
-            if rows.len() < n * 3 {
-                return Answer::Refused(Refusal::ShortOutput);
-            }
-            survey_open(heap, records, g, rows);
-            Answer::Value(n as u32)
-        }
-    }
-}
-
-// Fills a lent row of numbers as `tabulate` does, of an image with a log, and tells of the chain too.
-pub fn survey(sheet: &[u8], heap: &[u8], records: &[u8], log: &[u8], rows: &mut [u32]) -> Surveyed
-    ensures { λ r. ⌜ filling r (now (rows .exit))
-        ≡ surveyOf (before sheet heap records) (length (now (log .entry))) (now (rows .entry)) ⌝ }
-{
-    let opened = opening::open_with_log(sheet, heap.len(), records.len(), log.len());
-    match opened {
-        Opened::Refused(why) => Surveyed::Refused(why),
-        Opened::Sheet(g) => {
-            let n = g.count;
-            if rows.len() < n * 3 {
-                return Surveyed::Refused(Refusal::ShortOutput);
-            }
-            let start = survey_open(heap, records, g, rows);
-            let met = start.met;
-            let ending = start.ending;
-            Surveyed::Image(Overview {
-                count: n,
-                met,
-                ending,
-            })
-        }
-    }
+    answer_of(begun)
 }

@@ -5,6 +5,3 @@
 
 // The findings of all buffers.
 pub mod inspect;
-
-// A survey as numbers.
-pub mod numbers;
