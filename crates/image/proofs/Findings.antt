@@ -4,31 +4,15 @@ use mathlib.Core.List.{List}
 use Prim.Native.Nat.{ℕ, zero, suc, _≤_, _<_}
 use native.Mathlib.Omega.{arith}
 use native.Mathlib.Decide.{ℕ-discrete}
-<<<<<<< HEAD
-use lib.ListN.{length, getD, set, drop, length-set, List·getD-append}
-use lib.Seq.{sets, getD-set-same, getD-set-other}
-use Rattle.words.proofs.Parts.{below, sets-front, flat-same, length-flat, getD-flat}
-use Rattle.tags.specs.declared.verdict.Verdict.{Verdict}
-use Rattle.verdicts.specs.Walk.{marksOf, mark}
-use Rattle.verdicts.specs.Chain.{Chain, occ}
-use Rattle.verdicts.specs.Pairing.{ofMark, OwnIf, Paired}
-use Rattle.verdicts.specs.Judge.{judged, marked, metBy, imageChain, verdictOf}
-use Rattle.geometry.specs.Limits.{Lawful}
-use Rattle.sheet.specs.Opening.{Open, openedOf, openedWithLog}
-use Rattle.image.specs.Inspect.{findingOf, filled, inspectOf, Inspection, foundBy, started, Ready, Begins}
-use Rattle.image.specs.Inspect.{numbersOf, rowsOf, tableOf, surveyed, Surveying, surveyOf}
-use Rattle.geometry.specs.declared.sheet.Sheet.{Sheet}
-=======
 use borrow.Author.Tests.{le-leb, lt-leb}
 use lib.ListN.{length, getD, set, take, length-set}
 use lib.Seq.{getD-set-same, getD-set-other}
->>>>>>> reader
 use Rattle.tags.specs.declared.ending.Ending.{Ending}
 use Rattle.tags.specs.declared.refusal.Refusal.{Refusal}
 use Rattle.tags.specs.declared.refusal.Refusal.the-variants.{ShortOutput}
 use Rattle.sheet.specs.Opening.{openedOf}
 use Rattle.sheet.specs.Areas.{Areas}
-use Rattle.sheet.specs.declared.geometry.Sheet.{Sheet}
+use Rattle.geometry.specs.declared.sheet.Sheet.{Sheet}
 use Rattle.sheet.specs.declared.opening.Opened.the-variants as opened
 use Rattle.sheet.proofs.Opens.{opened-known}
 use Rattle.verdicts.specs.Chain.{chainIn}

@@ -1,25 +1,9 @@
 -- Inspect: the findings of an image. Assumes nothing.
 use mathlib.Core.Path.{_≡_}
-<<<<<<< HEAD
-use mathlib.Core.List.{List, [], _∷_}
-use Prim.Native.Nat.{ℕ, zero, suc, _*_, _≤_, _<_}
-use lib.ListN.{length, getD, set}
-use lib.Seq.{sets}
-use Rattle.words.specs.Word.{flat}
-use Rattle.tags.specs.Verdict.{verdictNumber, verdictValue}
-use Rattle.tags.specs.declared.verdict.Verdict.{Verdict}
-use Rattle.geometry.specs.Limits.{Lawful}
-use Rattle.geometry.specs.Sheet.{heapLength}
-use Rattle.sheet.specs.Opening.{openedOf, openedWithLog, byOpened}
-use Rattle.verdicts.specs.Pairing.{ofMark, PairedIn}
-use Rattle.verdicts.specs.Judge.{judged, marked, verdictOf, imageChain}
-use Rattle.geometry.specs.declared.sheet.Sheet.{Sheet}
-=======
 use mathlib.Core.List.{List}
 use Prim.Native.Nat.{ℕ, zero, suc, _≤_}
 use lib.ListN.{length, set, take}
 use Rattle.tags.specs.Filling.{Filling, filling, unfilled, ifRoom}
->>>>>>> reader
 use Rattle.tags.specs.declared.ending.Ending.{Ending}
 use Rattle.tags.specs.declared.refusal.Refusal.the-variants.{ShortOutput}
 use Rattle.tags.specs.declared.refusal.Answer.{Answer}
@@ -27,7 +11,7 @@ use Rattle.tags.specs.declared.refusal.Answer.the-variants.{Value, Refused}
 use Rattle.tags.specs.declared.verdict.Verdict.the-variants.{NotOneRecord}
 use Rattle.sheet.specs.Opening.{Open}
 use Rattle.sheet.specs.Areas.{Areas, Image, image, opening, byImage}
-use Rattle.sheet.specs.declared.geometry.Sheet.{Sheet}
+use Rattle.geometry.specs.declared.sheet.Sheet.{Sheet}
 use Rattle.verdicts.specs.Chain.{chainIn}
 use Rattle.verdicts.specs.Marks.{marksIn}
 use Rattle.verdicts.specs.Judge.{verdictOf}

@@ -4,36 +4,20 @@ ghost use mathlib.Core.Path.{_≡_};
 ghost use Prim.Native.Nat.{_≤_, _<_};
 ghost use lib.ListN.{length, take};
 ghost use Rattle.tags.specs.Filling.{filling};
-<<<<<<< HEAD
-ghost use Rattle.sheet.specs.Areas.{before};
-ghost use Rattle.sheet.specs.Opening.{Open};
-ghost use Rattle.verdicts.specs.Pairing.{Paired};
-ghost use Rattle.verdicts.specs.Walk.{marksOf};
-ghost use Rattle.verdicts.specs.Judge.{imageChain};
-ghost use Rattle.image.specs.Inspect.{inspectOf, foundBy, started, Ready, Begins, numbersOf, rowsOf, tableOf, tabulateOf, surveyOf};
-use geometry::sheet::Sheet;
-=======
-ghost use Rattle.sheet.specs.Geometry.{recordsLength};
-ghost use Rattle.sheet.specs.Limits.{Lawful};
+ghost use Rattle.geometry.specs.Sheet.{recordsLength};
+ghost use Rattle.geometry.specs.Limits.{Lawful};
 ghost use Rattle.sheet.specs.Areas.{before, imageIn};
 ghost use Rattle.verdicts.specs.Chain.{chainIn};
 ghost use Rattle.verdicts.specs.Marks.{marksIn};
 ghost use Rattle.verdicts.specs.Judge.{verdictOf};
 ghost use Rattle.image.specs.Inspect.{inspectOf, countOf, answerOf, foundBy, JudgesImage, Judges, Begins};
-use sheet::geometry::Sheet;
->>>>>>> reader
+use geometry::sheet::Sheet;
 use sheet::opening;
 use sheet::opening::Opened;
 use tags::ending::Ending;
 use tags::refusal::Answer;
 use tags::refusal::Refusal;
-<<<<<<< HEAD
-use tags::verdict;
 use tags::verdict::Verdict;
-use verdicts::chain;
-=======
-use tags::verdict::Verdict;
->>>>>>> reader
 use verdicts::judge;
 use verdicts::marks;
 
@@ -62,50 +46,10 @@ fn mark_first(records: &[u8], g: Sheet, marks: &mut [u8]) -> Ending
     walked.ending
 }
 
-<<<<<<< HEAD
-// Pairs the buffers of an open image with their records, and walks its chain.
-fn note(records: &[u8], g: Sheet) -> Begun
-    requires { ⌜ Open (g .count * g .chunk) (length (now records)) g ⌝ }
-    ensures start { λ r. ⌜ r .start ≡ started g (now (records .entry)) ⌝ }
-    ensures pairs { λ r. ⌜ Paired (now (records .entry)) (g .«heap_base») (g .chunk) (g .count) (r .pairs) ⌝ }
-    ensures marks { λ r. ⌜ r .marks ≡ marksOf 512 (imageChain g (now (records .entry)) .met) ⌝ }
-{
-    let mut pairs = [0u16; 512];
-    pairing::pair(
-        records,
-        g.record_base,
-        g.heap_base,
-        g.chunk,
-        g.count,
-        &mut pairs,
-    );
-    let mut marks = [0u8; 512];
-    let walked = chain::walk_from(records, g.record_base, g.count, g.head, &mut marks);
-    let met = walked.met;
-    let ending = walked.ending;
-    let start = Start {
-        sheet: g,
-        count: g.count,
-        met,
-        ending,
-        answer: Answer::Value(g.count as u32),
-    };
-    Begun {
-        start,
-        pairs,
-        marks,
-    }
-}
-
-// Opens an image, and readies all that its buffers are judged by, for a lent row of so many findings.
-fn begin(sheet: &[u8], heap: &[u8], records: &[u8], rows: usize) -> Begun
-    ensures { λ r. ⌜ Begins (before sheet heap records) rows r ⌝ }
-=======
 // Opens an image and marks its records and buffers, for a lent row of so many findings.
 fn begin(sheet: &[u8], heap: &[u8], records: &[u8], rows: usize, marks: &mut [u8; 512]) -> Begun
     requires { ⌜ length (now marks) ≡ 512 ⌝ }
     ensures { λ r. ⌜ Begins (before sheet heap records) rows r (now (marks .exit)) ⌝ }
->>>>>>> reader
 {
     let opened = opening::open(sheet, heap.len(), records.len());
     match opened {

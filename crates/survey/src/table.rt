@@ -34,14 +34,7 @@ fn put_row(rows: &mut [u32], i: usize, v: Verdict)
 }
 
 // Judges every buffer of a marked image and writes its numbers.
-fn judge_rows(
-    heap: &[u8],
-    records: &[u8],
-    g: Sheet,
-    marks: &[u8],
-    ending: Ending,
-    rows: &mut [u32],
-)
+fn judge_rows(heap: &[u8], records: &[u8], g: Sheet, marks: &[u8], ending: Ending, rows: &mut [u32])
     requires { ⌜ Open (length (now heap)) (length (now records)) g ⌝ }
     requires { ⌜ now marks ≡ marksIn g (now records) ⌝ }
     requires { ⌜ ending ≡ chainIn g (now records) .ending ⌝ }
@@ -59,13 +52,7 @@ fn judge_rows(
 }
 
 // Marks an open image, judges every buffer and writes its numbers, and answers what the chain met and how it ends.
-fn fill_marked(
-    heap: &[u8],
-    records: &[u8],
-    g: Sheet,
-    marks: &mut [u8],
-    rows: &mut [u32],
-) -> Walked
+fn fill_marked(heap: &[u8], records: &[u8], g: Sheet, marks: &mut [u8], rows: &mut [u32]) -> Walked
     requires { ⌜ Open (length (now heap)) (length (now records)) g ⌝ }
     requires { ⌜ length (now marks) ≡ g .count ⌝ }
     requires { ⌜ g .count * 3 ≤ length (now rows) ⌝ }
