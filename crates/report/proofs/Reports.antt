@@ -1,39 +1,25 @@
 -- How long the text of an image can be, and that a text that is answered is short and fits the output. Assumes nothing.
-use mathlib.Core.Path.{_≡_, refl}
+use mathlib.Core.Path.{_≡_}
 use mathlib.Core.List.{List, _++_}
-use Prim.Native.Nat.{ℕ, _≤_, _<_}
+use Prim.Native.Nat.{ℕ, _≤_}
 use native.Mathlib.Omega.{arith}
 use lib.ListN.{length}
-use Rattle.tags.specs.Ending.{endingValue}
 use Rattle.tags.specs.Filling.{Filling, filling, unfilled}
 use Rattle.tags.specs.declared.ending.Ending.{Ending}
-use Rattle.tags.specs.declared.ending.Ending.the-variants.{End, Broken, Again}
 use Rattle.tags.specs.declared.refusal.Answer.{Answer}
 use Rattle.tags.specs.declared.refusal.Answer.the-variants.{Value, Refused}
 use Rattle.geometry.specs.Limits.{SizesOf}
 use Rattle.sheet.specs.Areas.{Areas, Image, imageOf, openingWithLog}
-use Rattle.geometry.specs.declared.sheet.Sheet.{Sheet}
 use Rattle.sheet.proofs.Opens.{logged-known, by-opened}
-use Rattle.verdicts.specs.Chain.{chainIn, chainOf}
+use Rattle.verdicts.specs.Chain.{chainOf}
 use Rattle.verdicts.specs.Judge.{verdictOf}
-use Rattle.verdicts.proofs.Chains.{chain-short, chain-again-below}
+use Rattle.verdicts.proofs.Chains.{chain-short, ending-below}
 use Rattle.lines.specs.Text.{headerOf, linesOf, chainLineOf, faultsIn, faultsOf, longest, writing}
 use Rattle.lines.specs.declared.text.Written.{Written}
 use Rattle.lines.specs.declared.text.Written.the-variants as written
 use Rattle.lines.proofs.Texts.{verdict-small, text-is, text-short, written-known}
 use Rattle.report.specs.Answer.{numberOf, valueOf, reportText, reportedBy, reporting, reportOf}
 use Rattle.report.proofs.Values.{value-small}
-
--- ---- the chain line
-
--- the record that a chain comes to again is one of the sheet's
-pub ending-below : (g : Sheet) (records : List ℕ) → SizesOf g → endingValue (chainIn g records .ending) < g .count
-ending-below g records s = go (chainIn g records .ending) refl
-  where
-    go : (e : Ending) → chainIn g records .ending ≡ e → endingValue e < g .count
-    go End q = omega (arith, s .some)
-    go Broken q = omega (arith, s .some)
-    go (Again i) q = chain-again-below g records i q
 
 -- ---- the text
 

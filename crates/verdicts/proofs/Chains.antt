@@ -12,9 +12,11 @@ use Rattle.area.specs.Place.{placeAddress, placeOf}
 use Rattle.area.specs.Record.{recordSize, nextWord}
 use Rattle.verdicts.specs.Chain.{occ, Chain, stop, meets, ChainRule, chainFrom, chainAfter, chainIn}
 use Rattle.verdicts.specs.Walk.{toOne, areaOf, ofPlace, endingAt, wordValues, Gives}
+use Rattle.geometry.specs.Limits.{SizesOf}
 use Rattle.geometry.specs.declared.sheet.Sheet.{Sheet}
 use Rattle.area.specs.declared.place.Place.{Place}
 use Rattle.area.specs.declared.place.Place.the-variants.{At, Nowhere}
+use Rattle.tags.specs.Ending.{endingValue}
 use Rattle.tags.specs.declared.ending.Ending.{Ending}
 use Rattle.tags.specs.declared.ending.Ending.the-variants.{End, Broken, Again}
 use Rattle.area.proofs.Places.{place-at, place-found}
@@ -236,6 +238,15 @@ module _ (g : Sheet) (records : List ℕ) where
 
   pub chain-again-below : (i : ℕ) → chainIn g records .ending ≡ Again i → i < g .count
   chain-again-below i e = chain-below i (let h = chain-met-again i e in omega arith)
+
+  -- so the value of an ending is below the count
+  pub ending-below : SizesOf g → endingValue (chainIn g records .ending) < g .count
+  ending-below s = go (chainIn g records .ending) refl
+    where
+      go : (e : Ending) → chainIn g records .ending ≡ e → endingValue e < g .count
+      go End q = omega (arith, s .some)
+      go Broken q = omega (arith, s .some)
+      go (Again i) q = chain-again-below i q
 
   -- a list of records, none of them twice, that are linked from the head down to 0 is the chain
   pub linked-chain : g .«record_base» ≢ 0 → (l : List ℕ) → Linked (nextWord records) (g .«record_base») (g .count) (g .head) l → ((i : ℕ) → occ i l ≤ 1)

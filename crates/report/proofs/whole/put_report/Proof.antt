@@ -15,8 +15,8 @@ use Rattle.sheet.specs.Areas.{Image, image}
 use Rattle.lines.specs.Text.{lineOf, linesOf, faultOf, faultsIn, Wrote, mostBuffers, headerMost, lineMost}
 use Rattle.lines.proofs.Texts.{then, wrote-none}
 use Rattle.report.specs.Answer.{numberOf, valueOf, reportText}
-use Rattle.verdicts.proofs.Chains.{chain-short}
-use Rattle.report.proofs.Reports.{ending-below, report-is}
+use Rattle.verdicts.proofs.Chains.{chain-short, ending-below}
+use Rattle.report.proofs.Reports.{report-is}
 use Rattle.report.proofs.whole.put_report.Statement.{statement}
 use Rattle.report.proofs.whole.put_report.Tie as tie
 

@@ -1,59 +1,62 @@
+-- The loop's invariant: the numbers of the buffers passed are written. Assumes nothing.
+use mathlib.Core.Path.{_≡_, refl, ap, _∙_, subst}
+use mathlib.Core.List.{List}
+use Prim.Native.Nat.{ℕ, _≤_, _-_, _*_}
+use native.Mathlib.Omega.{arith}
+use borrow.Author.Needs.{needs}
+use lib.Seq.{sets}
+use lib.ListN.{length}
+use Rattle.words.specs.Word.{flat}
+use Rattle.words.proofs.Parts.{below, flat-none, flat-more}
+use Rattle.tags.specs.declared.verdict.Verdict.{Verdict}
+use Rattle.sheet.specs.Areas.{image}
+use Rattle.survey.specs.Table.{rowOf, tableOf}
+use Rattle.survey.proofs.Tables.{row}
 use Rattle.survey.proofs.table.judge_rows.Statement.{statement}
 use Rattle.survey.proofs.table.judge_rows.Tie as tie
-use Rattle.survey.proofs.table.judge_rows.Reads as reads
-use Rattle.survey.proofs.table.judge_rows.Lts as lts
-use Rattle.survey.proofs.table.put_row.Reads as put-row-reads
-use Rattle.verdicts.proofs.judge.judge_buffer.Reads as judge-buffer-reads
 
 abbrev Inv-loop : tie.InvT-loop
-Inv-loop heap records g marks ending rows₀ n i₀ rows i = ?
+Inv-loop heap records g marks ending rows₀ n i₀ rows i =
+    (i ≤ g .count) × (length rows ≡ length rows₀) × (rows ≡ sets rows₀ 0 (flat i (row (image g heap records))))
 
 abbrev μ-loop : tie.MeasureT-loop
-μ-loop heap records g marks ending rows₀ n i₀ rows i = ?
+μ-loop heap records g marks ending rows₀ n i₀ rows i = g .count - i
 
--- src/table.rt:54:5
-loop-holds : tie.Need-loop-holds Inv-loop μ-loop
-loop-holds c = ?
-
--- src/table.rt:55:13
 judge-buffer-requires : tie.Need-judge-buffer-requires Inv-loop μ-loop
-judge-buffer-requires c κs = ?
+judge-buffer-requires c κs =
+    let p = c .before .before .before .before .before .before .pre in
+    (p .0, (search needs, (p .1 .0, p .1 .1 .0)))
 
--- src/table.rt:56:9
 put-row-requires : tie.Need-put-row-requires Inv-loop μ-loop
-put-row-requires c κs = ?
+put-row-requires c κs =
+    let l = c .before .before in
+    let s = l .before .before .before .before .before .before in
+    let t = below 3 (l .loop-test .taken) in
+    let few = s .pre .0 .law .sizes .few in
+    let room = s .pre .1 .1 .1 in
+    (omega arith, omega arith)
 
--- src/table.rt:57:9
-add-i : tie.Need-add-i Inv-loop μ-loop
-add-i c = ?
-
--- src/table.rt:54:5
-loop-less : tie.Need-loop-less Inv-loop μ-loop
-loop-less c = ?
-
--- src/table.rt:54:5
 loop-again : tie.Need-loop-again Inv-loop μ-loop
-loop-again c = ?
+loop-again c =
+    let w = c .before .before in
+    let j = w .before .before in
+    let l = j .before .before in
+    let put = w .put-row .ensures ∙ ap (λ (v : Verdict). sets (l .loop .rows) (l .loop .i * 3) (rowOf (l .loop .i) v)) (j .judge-buffer .ensures) in
+    (search needs, search needs, flat-more 3 _ (λ i. refl) _ _ (l .loop .inv .2) put)
 
--- src/table.rt:37:1
-same-length : tie.Need-same-length Inv-loop μ-loop
-same-length c = ?
-
--- src/table.rt:37:1
 returns : tie.Need-returns Inv-loop μ-loop
-returns c = ?
+unfolding tableOf
+returns c =
+    let s = c .before .before .before .before .before .before in
+    let a = s .args in
+    let e : c .before .loop .i ≡ a .g .count = omega arith in
+    subst (λ (k : ℕ). c .before .loop .rows ≡ sets (a .rows .now) 0 (flat k (row (image (a .g) (a .heap .now) (a .records .now))))) e
+    (c .before .loop .inv .2)
 
 pub judge-rows-spec : {M : Type 1} → statement M
 judge-rows-spec =
     tie.close
     (tie.spec
-    Inv-loop
-    μ-loop
-    loop-holds
-    judge-buffer-requires
-    put-row-requires
-    add-i
-    loop-less
-    loop-again
-    same-length
-    returns)
+    Inv-loop μ-loop
+    (λ c. (omega arith, refl, flat-none 3 _ (λ i. refl) _))
+    judge-buffer-requires put-row-requires (λ c. search needs) (λ c. search needs) loop-again (λ c. search needs) returns)

@@ -1,82 +1,25 @@
+-- The three numbers are stored one after the other. Assumes nothing.
+use Prim.Native.Nat.{_*_}
+use native.Mathlib.Omega.{arith}
 use borrow.Author.Needs.{needs}
+use lib.ListN.{length-set}
+use Rattle.survey.proofs.Tables.{three-stores}
 use Rattle.survey.proofs.table.put_row.Statement.{statement}
 use Rattle.survey.proofs.table.put_row.Tie as tie
-use Rattle.survey.proofs.table.put_row.Reads as reads
-use Rattle.survey.proofs.table.put_row.Lts as lts
-use Rattle.tags.proofs.verdict.number.Reads as number-reads
-use Rattle.tags.proofs.verdict.value.Reads as value-reads
 
--- src/table.rt:30:14
-mul-at : tie.Need-mul-at
-mul-at c = search needs
-
--- src/table.rt:31:16
-cast-rows : tie.Need-cast-rows
-cast-rows c = search needs
-
--- src/table.rt:31:5
-mul-rows : tie.Need-mul-rows
-mul-rows c = search needs
-
--- src/table.rt:31:5
-slice-write-rows : tie.Need-slice-write-rows
-slice-write-rows c = search needs
-
--- src/table.rt:32:20
-number-requires : tie.Need-number-requires
-number-requires c κs = search needs
-
--- src/table.rt:32:10
-add-rows : tie.Need-add-rows
-add-rows c = search needs
-
--- src/table.rt:32:5
-mul-rows-2 : tie.Need-mul-rows-2
-mul-rows-2 c = search needs
-
--- src/table.rt:32:5
-slice-write-rows-2 : tie.Need-slice-write-rows-2
-slice-write-rows-2 c = ?
-
--- src/table.rt:33:20
-value-requires : tie.Need-value-requires
-value-requires c κs = search needs
-
--- src/table.rt:33:10
-add-rows-2 : tie.Need-add-rows-2
-add-rows-2 c = search needs
-
--- src/table.rt:33:5
-mul-rows-3 : tie.Need-mul-rows-3
-mul-rows-3 c = search needs
-
--- src/table.rt:33:5
-slice-write-rows-3 : tie.Need-slice-write-rows-3
-slice-write-rows-3 c = ?
-
--- src/table.rt:25:1
-same-length : tie.Need-same-length
-same-length c = search needs
-
--- src/table.rt:25:1
 returns : tie.Need-returns
-returns c = ?
+returns c =
+    let a = c .before .before .before .args in
+    rw (← c .before .number .ensures, ← c .value .ensures)
+    (three-stores (a .rows .now) (a .i * 3) (a .i) (c .before .number .result) (c .value .result))
 
 pub put-row-spec : {M : Type 1} → statement M
 put-row-spec =
     tie.close
     (tie.spec
-    mul-at
-    cast-rows
-    mul-rows
-    slice-write-rows
-    number-requires
-    add-rows
-    mul-rows-2
-    slice-write-rows-2
-    value-requires
-    add-rows-2
-    mul-rows-3
-    slice-write-rows-3
-    same-length
-    returns)
+    (λ c. search needs) (λ c. search needs) (λ c. search needs) (λ c. search needs) (λ c κs. search needs) (λ c. search needs)
+    (λ c. search needs)
+    (λ c. simp length-set (omega arith))
+    (λ c κs. search needs) (λ c. search needs) (λ c. search needs)
+    (λ c. simp length-set (omega arith))
+    (λ c. search needs) returns)
