@@ -25,7 +25,8 @@ pub numbered-known : (g : Sheet) (h r : ℕ) (o : Sheet) → numbered g h r ≡ 
 unfolding numbered measured
 numbered-known g h r o e = go (lawful g) (lengthsRight g h r) refl refl e
   where
-    go : (a b : Bool) → lawful g ≡ a → lengthsRight g h r ≡ b → cond a (cond b (opened.Sheet g) (opened.Refused BadLength)) (opened.Refused BadNumber) ≡ opened.Sheet o
+    go : (a b : Bool) → lawful g ≡ a → lengthsRight g h r ≡ b
+        → cond a (cond b (opened.Sheet g) (opened.Refused BadLength)) (opened.Refused BadNumber) ≡ opened.Sheet o
         → (o ≡ g) × Open h r o
     go true true l m f =
         let z : g ≡ o = cc in
@@ -53,7 +54,8 @@ pub logged-known : (s : List ℕ) (h r l : ℕ) (g : Sheet) → openedWithLog s 
 unfolding openedWithLog
 logged-known s h r l g e = go (openedOf s h r) (logRight l) refl refl e
   where
-    go : (o : Opened) (b : Bool) → openedOf s h r ≡ o → logRight l ≡ b → byOpened o (λ x. cond b (opened.Sheet x) (opened.Refused BadLength)) opened.Refused ≡ opened.Sheet g
+    go : (o : Opened) (b : Bool) → openedOf s h r ≡ o → logRight l ≡ b
+        → byOpened o (λ x. cond b (opened.Sheet x) (opened.Refused BadLength)) opened.Refused ≡ opened.Sheet g
         → Opens s h r g × (l ≤ 16384)
     go (opened.Sheet x) true q k f =
         let z : x ≡ g = cc in

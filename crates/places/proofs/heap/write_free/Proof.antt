@@ -1,12 +1,24 @@
 -- The chunk comes back in its place. Assumes nothing.
-use Prim.Native.Nat.{ℕ}
+use Prim.Native.Nat.{ℕ, _+_, _≤_}
 use native.Mathlib.Omega.{arith}
 use Rattle.chunks.specs.Chunk.{freeChunk}
 use Rattle.chunks.proofs.Chunks.{length-freeChunk}
 use Rattle.places.proofs.Chunks.{inside, small, lent-lawful, chunk-back}
 use borrow.Author.Needs.{needs}
+use lib.ListN.{length}
 use Rattle.places.proofs.heap.write_free.Statement.{statement}
 use Rattle.places.proofs.heap.write_free.Tie as tie
+
+-- the chunk ends at a small number, and in the heap
+module _ (c : tie.After-chunk-place) where
+  abbrev start : tie.Start
+  start = c .before .before
+
+  ends-small : c .chunk-place .result + start .args .g .chunk ≤ 65536
+  ends-small = small _ _ _ (start .pre .0) (start .pre .1 .1) (c .chunk-place .ensures)
+
+  ends-inside : c .chunk-place .result + start .args .g .chunk ≤ length (start .args .heap .now)
+  ends-inside = inside (start .args .heap .now) _ _ _ (start .pre .0) (start .pre .1 .0) (start .pre .1 .1) (c .chunk-place .ensures)
 
 write-free-requires : tie.Need-write-free-requires
 write-free-requires c κs =
@@ -21,14 +33,15 @@ returns c =
     let s = w .before .before .before .before .before in
     let p = s .pre in
     let a = s .args .record-at in
-    chunk-back _ _ _ _ (p .0) (p .1 .0) (p .1 .1) (w .before .before .before .chunk-place .ensures) (λ (n : ℕ). freeChunk n a) _ (λ n. length-freeChunk n a) (w .write-free .ensures)
+    chunk-back _ _ _ _ (p .0) (p .1 .0) (p .1 .1) (w .before .before .before .chunk-place .ensures) (λ (n : ℕ). freeChunk n a) _
+    (λ n. length-freeChunk n a) (w .write-free .ensures)
 
 pub write-free-spec : {M : Type 1} → statement M
 write-free-spec =
     tie.close
     (tie.spec
     (λ c κs. search needs)
-    (λ c. let s = c .before .before .before in let p = s .pre in omega (arith, small (s .args .g) (s .args .i) (c .before .chunk-place .result) (p .0) (p .1 .1) (c .before .chunk-place .ensures)))
+    (λ c. omega (arith, ends-small (c .before)))
     (λ c. search needs) (λ c. search needs)
-    (λ c. let s = c .before .before .before in let p = s .pre in omega (arith, inside (s .args .heap .now) (s .args .g) (s .args .i) (c .before .chunk-place .result) (p .0) (p .1 .0) (p .1 .1) (c .before .chunk-place .ensures)))
+    (λ c. omega (arith, ends-inside (c .before)))
     write-free-requires (λ c. search needs) returns)

@@ -1,21 +1,34 @@
 -- The chunk comes back in its place. Assumes nothing.
 use mathlib.Core.Path.{sym, ap, _∙_}
 use mathlib.Core.Bool.{true}
-use Prim.Native.Nat.{ℕ}
+use Prim.Native.Nat.{ℕ, _+_, _≤_}
 use native.Mathlib.Omega.{arith}
 use Rattle.chunks.specs.Chunk.{lawfulSize, grantedChunk}
 use Rattle.chunks.proofs.Chunks.{length-grantedChunk}
 use Rattle.places.proofs.Chunks.{inside, small, lent-size, lent-lawful, chunk-back}
 use borrow.Author.Needs.{needs}
+use lib.ListN.{length}
 use Rattle.places.proofs.heap.write_granted.Statement.{statement}
 use Rattle.places.proofs.heap.write_granted.Tie as tie
+
+-- the chunk ends at a small number, and in the heap
+module _ (c : tie.After-chunk-place) where
+  abbrev start : tie.Start
+  start = c .before .before
+
+  ends-small : c .chunk-place .result + start .args .g .chunk ≤ 65536
+  ends-small = small _ _ _ (start .pre .0) (start .pre .1 .1 .0) (c .chunk-place .ensures)
+
+  ends-inside : c .chunk-place .result + start .args .g .chunk ≤ length (start .args .heap .now)
+  ends-inside = inside (start .args .heap .now) _ _ _ (start .pre .0) (start .pre .1 .0) (start .pre .1 .1 .0) (c .chunk-place .ensures)
 
 write-granted-requires : tie.Need-write-granted-requires
 write-granted-requires c κs =
     let s = c .before .before .before .before in
     let p = s .pre in
     let e = c .before .before .chunk-place .ensures in
-    (lent-lawful _ _ _ _ (p .0) (p .1 .0) (p .1 .1 .0) e, ap (λ (n : ℕ). lawfulSize n (s .args .grant)) (lent-size _ _ _ _ (p .0) (p .1 .0) (p .1 .1 .0) e) ∙ p .1 .1 .1)
+    let size = lent-size _ _ _ _ (p .0) (p .1 .0) (p .1 .1 .0) e in
+    (lent-lawful _ _ _ _ (p .0) (p .1 .0) (p .1 .1 .0) e, ap (λ (n : ℕ). lawfulSize n (s .args .grant)) size ∙ p .1 .1 .1)
 
 returns : tie.Need-returns
 returns c =
@@ -24,14 +37,15 @@ returns c =
     let p = s .pre in
     let a = s .args .record-at in
     let q = s .args .grant in
-    chunk-back _ _ _ _ (p .0) (p .1 .0) (p .1 .1 .0) (w .before .before .before .chunk-place .ensures) (λ (n : ℕ). grantedChunk n a q) _ (λ n. length-grantedChunk n a q) (w .write-granted .ensures)
+    chunk-back _ _ _ _ (p .0) (p .1 .0) (p .1 .1 .0) (w .before .before .before .chunk-place .ensures) (λ (n : ℕ). grantedChunk n a q) _
+    (λ n. length-grantedChunk n a q) (w .write-granted .ensures)
 
 pub write-granted-spec : {M : Type 1} → statement M
 write-granted-spec =
     tie.close
     (tie.spec
     (λ c κs. search needs)
-    (λ c. let s = c .before .before .before in let p = s .pre in omega (arith, small (s .args .g) (s .args .i) (c .before .chunk-place .result) (p .0) (p .1 .1 .0) (c .before .chunk-place .ensures)))
+    (λ c. omega (arith, ends-small (c .before)))
     (λ c. search needs) (λ c. search needs)
-    (λ c. let s = c .before .before .before in let p = s .pre in omega (arith, inside (s .args .heap .now) (s .args .g) (s .args .i) (c .before .chunk-place .result) (p .0) (p .1 .0) (p .1 .1 .0) (c .before .chunk-place .ensures)))
+    (λ c. omega (arith, ends-inside (c .before)))
     write-granted-requires (λ c. search needs) returns)
