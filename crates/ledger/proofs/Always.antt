@@ -148,5 +148,5 @@ module _ (g : Sheet) (laid : Laid g) where
   run-keeps [] w f = f
   run-keeps (call ∷ calls) w f = run-keeps calls (step (g .size) call w) (step-keeps call w f)
 
-  pub start-keeps : g .head ≡ g .«record_base» → RunInvariant g (begun (laidAreas g))
-  start-keeps e = record { head = g .head; chain = range 0 (g .count); invariant = laid-invariant g laid e; balance = omega (arith, total-none (g .count)) }
+  pub begun-keeps : g .head ≡ g .«record_base» → RunInvariant g (begun (laidAreas g))
+  begun-keeps e = record { head = g .head; chain = range 0 (g .count); invariant = laid-invariant g laid e; balance = omega (arith, total-none (g .count)) }

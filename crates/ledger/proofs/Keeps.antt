@@ -33,7 +33,7 @@ use Rattle.ledger.specs.Ledger.{Entry, put, fresh, overwritten}
 use Rattle.ledger.proofs.Chunks.{chunkFor, LawfulEntry, fresh-chunk, fresh-lawful, store-chunk, store-lawful}
 use Rattle.ledger.proofs.Counts.{at-put, stray-put}
 use Rattle.ledger.proofs.Invariant.{Laid, outs, Invariant, chunk-some, first-address, rest-linked, head-fits}
-use Rattle.ledger.proofs.Calls.{place, hold, taken-below, chunk-is, entry-is}
+use Rattle.ledger.proofs.Calls.{pairAt, hold, taken-below, chunk-is, entry-is}
 
 -- ---- the chunks
 
@@ -61,7 +61,7 @@ module _ (g : Sheet) (laid : Laid g) where
 
   pub granted-keeps : {head : ℕ} {a : Areas} {out : ℕ → Option Entry} {j : ℕ} {js : List ℕ} (q : Grant) (t : Stamp) → lawfulSize (g .size) q ≡ true
       → Invariant g head a out (j ∷ js)
-      → Invariant g (nextWord (a .records) j) (grantedAreas a q t (place g laid head j)) (put (bufferAddress g j) (some (fresh (g .size) q)) out) js
+      → Invariant g (nextWord (a .records) j) (grantedAreas a q t (pairAt g laid head j)) (put (bufferAddress g j) (some (fresh (g .size) q)) out) js
   unfolding grantedAreas
   granted-keeps {head} {a} {out} {j} {js} q t l v =
       let h : j < g .count = taken-below g laid v in
@@ -96,7 +96,7 @@ module _ (g : Sheet) (laid : Laid g) where
   pub freed-keeps : {head : ℕ} {a : Areas} {out : ℕ → Option Entry} {chain : List ℕ} (j : ℕ) (o : Entry) (t : Stamp)
       → Invariant g head a out chain → j < g .count
       → out (bufferAddress g j) ≡ some o
-      → Invariant g (recordAddress g j) (freedAreas a t (place g laid head j)) (put (bufferAddress g j) none out) (j ∷ chain)
+      → Invariant g (recordAddress g j) (freedAreas a t (pairAt g laid head j)) (put (bufferAddress g j) none out) (j ∷ chain)
   unfolding freedAreas Linked
   freed-keeps {head} {a} {out} {chain} j o t v h e =
       let c = freeChunk (g .size) (recordAddress g j) in
