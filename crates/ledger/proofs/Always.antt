@@ -47,7 +47,8 @@ module _ (g : Sheet) (laid : Laid g) where
       → outCount g (put (bufferAddress g j) o out) + outs (out (bufferAddress g j)) ≡ outCount g out + outs o
   count-put j h o out =
       total-change (λ i. outs (put (bufferAddress g j) o out (bufferAddress g i))) (λ i. outs (out (bufferAddress g i))) (g .count) j h
-      (λ i l ne. ap outs (put-other (bufferAddress g j) (bufferAddress g i) o out (λ e. ne (address-one (g .«heap_base») (g .chunk) i j (chunk-some g laid) e))))
+      (λ i l ne. ap outs
+      (put-other (bufferAddress g j) (bufferAddress g i) o out (λ e. ne (address-one (g .«heap_base») (g .chunk) i j (chunk-some g laid) e))))
       ∙ ap (λ (x : Option Entry). outCount g out + outs x) (put-same (bufferAddress g j) o out)
 
   -- an address is no buffer's, or that of one that is not out, or of one that is
@@ -147,5 +148,5 @@ module _ (g : Sheet) (laid : Laid g) where
   run-keeps [] w f = f
   run-keeps (call ∷ calls) w f = run-keeps calls (step (g .size) call w) (step-keeps call w f)
 
-  pub start-keeps : g .head ≡ g .«record_base» → RunInvariant g (begun (laidAreas g))
-  start-keeps e = record { head = g .head; chain = range 0 (g .count); invariant = laid-invariant g laid e; balance = omega (arith, total-none (g .count)) }
+  pub begun-keeps : g .head ≡ g .«record_base» → RunInvariant g (begun (laidAreas g))
+  begun-keeps e = record { head = g .head; chain = range 0 (g .count); invariant = laid-invariant g laid e; balance = omega (arith, total-none (g .count)) }

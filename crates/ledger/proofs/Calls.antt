@@ -51,11 +51,11 @@ none-out (some o) e = absurd (omega arith)
 
 module _ (g : Sheet) (laid : Laid g) where
   -- buffer j with its record j, of the image as it is
-  abbrev pub place : ℕ → ℕ → Spot
-  place head j = spot (headed g head) j j
+  abbrev pub pairAt : ℕ → ℕ → Spot
+  pairAt head j = spot (headed g head) j j
 
   abbrev pub hold : ℕ → ℕ → Grant → Holding
-  hold head j q = holding (place head j) q
+  hold head j q = holding (pairAt head j) q
 
   record-place : (j : ℕ) → j < g .count → (w : ℕ) → w ≡ recordAddress g j → recordOf g w ≡ At j
   record-place j h w e = place-at (g .«record_base») recordSize (g .count) w j (omega arith) h e
@@ -88,7 +88,7 @@ module _ (g : Sheet) (laid : Laid g) where
           eq-eqb (addressWord (a .records) j) (bufferAddress g j) (v .names j h),
           granted-verdict (g .size) (recordAddress g j) few word (o .grant) (l .0) (o .client) (l .1),
         )
-        (held-as (o .grant) (place head j))
+        (held-as (o .grant) (pairAt head j))
 
     pub held-in : (j : ℕ) → j < g .count → out (bufferAddress g j) ≡ none → heldOf (imageOf a (headed g head)) (bufferAddress g j) ≡ held.Refused NotAllocated
     unfolding heldOf heldChunk
@@ -111,7 +111,7 @@ module _ (g : Sheet) (laid : Laid g) where
     -- ---- free
 
     pub free-done : (j : ℕ) → j < g .count → (o : Entry) → out (bufferAddress g j) ≡ some o → (q : Grant) (t : Stamp) → sameGrant (o .grant) q ≡ true
-        → freeOf a (bufferAddress g j) q t ≡ result done (freedAreas a t (place head j))
+        → freeOf a (bufferAddress g j) q t ≡ result done (freedAreas a t (pairAt head j))
     unfolding freeOf freePlan
     free-done j h o e q t s = rw (opens g laid v, held-out j h o e, s)
 
@@ -196,7 +196,7 @@ module _ (g : Sheet) (laid : Laid g) where
     taken-in = none-out (out (bufferAddress g j)) (omega (arith, v .each j taken-below, occ-here j js))
 
     pub allocate-some : (q : Grant) (t : Stamp) → lawfulSize (g .size) q ≡ true
-        → allocateOf a q t ≡ result (answer.Value (bufferAddress g j)) (grantedAreas a q t (place head j))
+        → allocateOf a q t ≡ result (answer.Value (bufferAddress g j)) (grantedAreas a q t (pairAt head j))
     unfolding allocateOf allocatePlan takenOf takenHead takenChunk
     allocate-some q t e =
         let h = taken-below in

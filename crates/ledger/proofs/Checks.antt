@@ -25,7 +25,8 @@ use Rattle.transactions.specs.Latest.{considered, latestRow}
 use Rattle.layout.specs.Layout.{linkTo, laidAreas, layOutPlan, layOutOf}
 use Rattle.allocation.specs.Allocate.{takenChunk, takenHead, takenOf, allocatePlan, grantedAreas, allocateOf}
 use Rattle.ledger.specs.Ledger.{stampOf, allocate, resultOf, put, begun, run}
-use Rattle.ledger.specs.Checks.{freshAreas, refusedAs, rowLatest, Check, tagged, examined, aged, next, ClaimOf, AllClaims, checks, freeWith, allocatedWith}
+use Rattle.ledger.specs.Checks.{Check, tagged, examined, aged, next, ClaimOf, AllClaims, checks}
+use Rattle.ledger.specs.Checks.{freshAreas, refusedAs, rowLatest, freeWith, allocatedWith}
 
 abbrev test : Check → Bool
 test (tagged t0 t1 s) = eqb (bitXor t0 t1) (stateWord s)
@@ -57,7 +58,10 @@ all-hold [] e = tt
 all-hold (c ∷ cs) e = let both = and-eq-true-iff _ _ .0 e in (holds c (both .0), all-hold cs (both .1))
 
 computed : all checks ≡ true
-unfolding checks freeWith allocatedWith freshAreas run put layOutPlan layOutOf laidAreas sheetBytes recordBytes flat linkTo part number bytesOf numberAt repeated differenceFrom tagOf patternOf patternWord decodedOf chunkOf freeChunk grantedChunk tagAt ownedVerdict chainedVerdict rowLatest rowRecord rowUptime considered latestRow freeVerdict allocatedVerdict zoneVerdict sizedVerdict ageOf stamped fieldIs shaped sheetOf withHead measured numbered openedOf lawful sizesLawful basesLawful placeOf recordWord takenChunk takenHead takenOf allocatePlan grantedAreas allocateOf
+unfolding checks freeWith allocatedWith freshAreas run put layOutPlan layOutOf laidAreas sheetBytes recordBytes flat linkTo part number bytesOf
+    numberAt repeated differenceFrom tagOf patternOf patternWord decodedOf chunkOf freeChunk grantedChunk tagAt ownedVerdict chainedVerdict
+    rowLatest rowRecord rowUptime considered latestRow freeVerdict allocatedVerdict zoneVerdict sizedVerdict ageOf stamped fieldIs shaped sheetOf withHead measured
+    numbered openedOf lawful sizesLawful basesLawful placeOf recordWord takenChunk takenHead takenOf allocatePlan grantedAreas allocateOf
 computed = refl
 
 pub checks-hold : AllClaims checks

@@ -1,4 +1,4 @@
--- What a chunk says, free or granted, with any client bytes laid over its start: proved once over the buffer size. Assumes nothing.
+-- What a chunk says, free or granted, with any client bytes written over its start: proved once over the buffer size. Assumes nothing.
 use mathlib.Core.Path.{_≡_, refl, sym, ap, _∙_}
 use mathlib.Core.Bool.{true}
 use mathlib.Core.Logic.{_≢_, inr}
@@ -177,7 +177,7 @@ abbrev pub chunkFor : ℕ → ℕ → Option Entry → List ℕ
 chunkFor size a none = freeChunk size a
 chunkFor size a (some o) = sets (grantedChunk size a (o .grant)) 0 (o .client)
 
--- what holds of a loan
+-- what is known of an entry
 abbrev pub LawfulEntry : ℕ → Option Entry → Type 0
 LawfulEntry size none = Unit {0}
 LawfulEntry size (some o) = (lawfulSize size (o .grant) ≡ true) × (length (o .client) ≡ grantSize size (o .grant))
@@ -253,7 +253,7 @@ module _ (size a : ℕ) (few : size ≤ 4096) (word : a < 4294967296) where
       let w = lawful-within size s (grant.Sized s) refl l in
       sized-sound s (ends-within (sized-ends s (w .1)) vs 0 (omega (arith, w .1))) (guard-stands s (w .1) vs e) (w .0) (w .1) (code-other s (w .1))
 
--- a fresh loan
+-- a fresh entry
 filled-front : (size a r1 k : ℕ) → k ≤ size
     → part (chunkOf (repeated size grantFill) redzone r1 (tagOf a state.Allocated .t0) (tagOf a state.Allocated .t1)) 0 k ≡ repeated k grantFill
 filled-front size a r1 k h =

@@ -70,7 +70,10 @@ record Evaluated : Type 0 where
   next : answer₀ calls₁ (allocate (grant.Sized 8) (stampOf 4 7)) ≡ answer.Value 4096
 
 evaluated : Evaluated
-unfolding areas₀ state₀ answer₀ calls₀ calls₁ run put layOutPlan layOutOf lawful sizesLawful basesLawful laidAreas sheetBytes recordBytes flat linkTo part number bytesOf numberAt repeated differenceFrom tagOf patternWord patternOf decodedOf chunkOf freeChunk grantedChunk tagAt freeVerdict zoneVerdict sizedVerdict allocatedVerdict withNext stamped fieldIs shaped sheetOf withHead measured numbered openedOf placeOf recordWord takenChunk takenHead takenOf allocatePlan grantedAreas allocateOf heldChunk heldOf freePlan freedAreas freeOf storePlan storedAreas storeOf
+unfolding areas₀ state₀ answer₀ calls₀ calls₁ run put layOutPlan layOutOf lawful sizesLawful basesLawful laidAreas sheetBytes recordBytes flat linkTo
+    part number bytesOf numberAt repeated differenceFrom tagOf patternWord patternOf decodedOf chunkOf freeChunk grantedChunk tagAt freeVerdict
+    zoneVerdict sizedVerdict allocatedVerdict withNext stamped fieldIs shaped sheetOf withHead measured numbered openedOf placeOf recordWord
+    takenChunk takenHead takenOf allocatePlan grantedAreas allocateOf heldChunk heldOf freePlan freedAreas freeOf storePlan storedAreas storeOf
 evaluated = record {
   first = refl;
   second = refl;

@@ -62,7 +62,8 @@ module _ (size a : ℕ) (few : size ≤ 4096) (word : a < 4294967296) where
   pub pattern-for : (o : Option Entry) → LawfulEntry size o → patternOf (tagAt (chunkFor size a o)) ≡ statePattern (stateFor o)
   pattern-for o l = ap patternOf (tag-for size a few word o l) ∙ tag-pattern a (stateFor o)
 
-  owned-for : (o : Option Entry) → LawfulEntry size o → (k : ℕ) → k + outs o ≡ 1 → ownedVerdict (chunkFor size a o) a (standing (not (eqb k 0)) false) ≡ asEntered o
+  owned-for : (o : Option Entry) → LawfulEntry size o → (k : ℕ) → k + outs o ≡ 1
+      → ownedVerdict (chunkFor size a o) a (standing (not (eqb k 0)) false) ≡ asEntered o
   unfolding ownedVerdict chainedVerdict
   owned-for none l k e =
       let q : k ≡ 1 = omega arith in

@@ -36,7 +36,7 @@ abbrev pub outs : Option Entry → ℕ
 outs none = 0
 outs (some o) = 1
 
--- `chain` holds the records of the buffers that are not out, in the chain's order
+-- what the ledger says of the areas; `chain` lists the records of the buffers that are not out, in the chain's order
 pub record Invariant (g : Sheet) (head : ℕ) (a : Areas) (out : ℕ → Option Entry) (chain : List ℕ) : Type 0 where
   pub sheetIs : a .sheet ≡ sheetBytes (headed g head)
   pub heapLong : length (a .heap) ≡ heapLength g

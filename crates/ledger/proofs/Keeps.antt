@@ -16,9 +16,10 @@ use Rattle.chunks.proofs.Chunks.{length-freeChunk, length-grantedChunk, grant-w
 use Rattle.chunks.specs.declared.chunk.Grant.{Grant}
 use Rattle.area.specs.Record.{stamped, withNext, nextAt, bufferAt, nextWord}
 use Rattle.area.specs.declared.record.Stamp.{Stamp}
+use Rattle.area.specs.declared.place.Place.the-variants.{Nowhere}
 use Rattle.area.proofs.Records.{length-stamped, stamped-word, length-withNext, next-same, next-other, next-name}
 use Rattle.sheet.specs.Areas.{Areas, chunkIn}
-use Rattle.geometry.specs.Sheet.{headed, heapLength, chunkPlace, bufferAddress, recordAddress}
+use Rattle.geometry.specs.Sheet.{headed, heapLength, bufferAddress, recordAddress, bufferOf}
 use Rattle.geometry.specs.declared.sheet.Sheet.{Sheet}
 use Rattle.sheet.proofs.Bytes.{sheet-head}
 use Rattle.geometry.proofs.Sheets.{chunk-inside, record-inside}
@@ -32,7 +33,7 @@ use Rattle.ledger.specs.Ledger.{Entry, put, fresh, overwritten}
 use Rattle.ledger.proofs.Chunks.{chunkFor, LawfulEntry, fresh-chunk, fresh-lawful, store-chunk, store-lawful}
 use Rattle.ledger.proofs.Counts.{at-put, stray-put}
 use Rattle.ledger.proofs.Invariant.{Laid, outs, Invariant, chunk-some, first-address, rest-linked, head-fits}
-use Rattle.ledger.proofs.Calls.{place, hold, taken-below, chunk-is, entry-is}
+use Rattle.ledger.proofs.Calls.{pairAt, hold, taken-below, chunk-is, entry-is}
 
 -- ---- the chunks
 
@@ -44,6 +45,14 @@ whole-chunk c l s i j e ne =
     ap (λ (x : ℕ). part (sets l x c) (i * s) s) (sym (add-zero (j * s))) ∙ other-chunk c l s i j 0 (omega arith) ne
 
 module _ (g : Sheet) (laid : Laid g) where
+  -- what holds of the new entry and of each other one, and that an address that is no buffer's has the entry that it had
+  each-entry : (j : ℕ) (o : Option Entry) (out : ℕ → Option Entry) (P : ℕ → Option Entry → Type 0) → P j o
+      → ((i : ℕ) → i < g .count → i ≢ j → P i (out (bufferAddress g i))) → (i : ℕ) → i < g .count → P i (put (bufferAddress g j) o out (bufferAddress g i))
+  each-entry j = at-put (g .«heap_base») (g .chunk) (g .count) j (chunk-some g laid)
+
+  stray-entry : (j : ℕ) (o : Option Entry) (out : ℕ → Option Entry) (x : ℕ) → j < g .count → bufferOf g x ≡ Nowhere → put (bufferAddress g j) o out x ≡ out x
+  stray-entry j = stray-put (g .«heap_base») (g .chunk) (g .count) j (chunk-some g laid)
+
   -- a chunk that is written whole
   same-chunk : (c l : List ℕ) (j : ℕ) → length c ≡ g .size + 16 → length l ≡ heapLength g → j < g .count
       → part (sets l (j * g .chunk) c) (j * g .chunk) (g .chunk) ≡ c
@@ -52,7 +61,7 @@ module _ (g : Sheet) (laid : Laid g) where
 
   pub granted-keeps : {head : ℕ} {a : Areas} {out : ℕ → Option Entry} {j : ℕ} {js : List ℕ} (q : Grant) (t : Stamp) → lawfulSize (g .size) q ≡ true
       → Invariant g head a out (j ∷ js)
-      → Invariant g (nextWord (a .records) j) (grantedAreas a q t (place g laid head j)) (put (bufferAddress g j) (some (fresh (g .size) q)) out) js
+      → Invariant g (nextWord (a .records) j) (grantedAreas a q t (pairAt g laid head j)) (put (bufferAddress g j) (some (fresh (g .size) q)) out) js
   unfolding grantedAreas
   granted-keeps {head} {a} {out} {j} {js} q t l v =
       let h : j < g .count = taken-below g laid v in
@@ -69,25 +78,25 @@ module _ (g : Sheet) (laid : Laid g) where
         linked = linked-same (nextWord (a .records)) (nextWord r) (g .«record_base») (g .count) (nextWord (a .records) j) js
             (λ i m. sym (stamped-word (a .records) j t i nextAt (omega arith)))
             (rest-linked g laid (nextWord (a .records)) head j js (v .linked));
-        each = at-put (g .«heap_base») (g .chunk) (g .count) j (chunk-some g laid) new out (λ i x. occ i js + outs x ≡ 1)
+        each = each-entry j new out (λ i x. occ i js + outs x ≡ 1)
             (omega (arith, v .each j h, occ-here j js))
             (λ i k ne. omega (arith, v .each i k, occ-apart i j js ne));
         only = λ i k. omega (arith, v .only i k, occ-cons i j js);
-        chunks = at-put (g .«heap_base») (g .chunk) (g .count) j (chunk-some g laid) new out (λ i x. chunkIn g heap i ≡ chunkFor (g .size) (recordAddress g i) x)
+        chunks = each-entry j new out (λ i x. chunkIn g heap i ≡ chunkFor (g .size) (recordAddress g i) x)
             (same-chunk c (a .heap) j long (v .heapLong) h
             ∙ ap (λ (x : ℕ). grantedChunk (g .size) x q) at
             ∙ fresh-chunk (g .size) (recordAddress g j) q l)
             (λ i k ne. whole-chunk c (a .heap) (g .chunk) i j (omega (arith, laid .law .sizes .chunks)) ne ∙ v .chunks i k);
         names = λ i k. stamped-word (a .records) j t i bufferAt (omega arith) ∙ v .names i k;
-        entries = at-put (g .«heap_base») (g .chunk) (g .count) j (chunk-some g laid) new out (λ i x. LawfulEntry (g .size) x)
+        entries = each-entry j new out (λ i x. LawfulEntry (g .size) x)
             (fresh-lawful (g .size) q l) (λ i k ne. v .entries i k);
-        stray = λ x e. stray-put (g .«heap_base») (g .chunk) (g .count) j (chunk-some g laid) new out x h e ∙ v .stray x e;
+        stray = λ x e. stray-entry j new out x h e ∙ v .stray x e;
       }
 
   pub freed-keeps : {head : ℕ} {a : Areas} {out : ℕ → Option Entry} {chain : List ℕ} (j : ℕ) (o : Entry) (t : Stamp)
       → Invariant g head a out chain → j < g .count
       → out (bufferAddress g j) ≡ some o
-      → Invariant g (recordAddress g j) (freedAreas a t (place g laid head j)) (put (bufferAddress g j) none out) (j ∷ chain)
+      → Invariant g (recordAddress g j) (freedAreas a t (pairAt g laid head j)) (put (bufferAddress g j) none out) (j ∷ chain)
   unfolding freedAreas Linked
   freed-keeps {head} {a} {out} {chain} j o t v h e =
       let c = freeChunk (g .size) (recordAddress g j) in
@@ -110,20 +119,20 @@ module _ (g : Sheet) (laid : Laid g) where
         heapLong = length-sets (a .heap) (j * g .chunk) c ∙ v .heapLong;
         recordsLong = length-stamped before j t ∙ length-withNext (a .records) j head ∙ v .recordsLong;
         linked = (h, (refl, subst (λ (x : ℕ). Linked (nextWord r) (g .«record_base») (g .count) x chain) (sym leads) kept));
-        each = at-put (g .«heap_base») (g .chunk) (g .count) j (chunk-some g laid) none out (λ i x. occ i (j ∷ chain) + outs x ≡ 1)
+        each = each-entry j none out (λ i x. occ i (j ∷ chain) + outs x ≡ 1)
             (omega (arith, occ-here j chain))
             (λ i k ne. omega (arith, v .each i k, occ-apart i j chain ne));
         only = λ i k. let ne : i ≢ j = omega arith in omega (arith, v .only i k, occ-apart i j chain ne);
-        chunks = at-put (g .«heap_base») (g .chunk) (g .count) j (chunk-some g laid) none out (λ i x. chunkIn g heap i ≡ chunkFor (g .size) (recordAddress g i) x)
+        chunks = each-entry j none out (λ i x. chunkIn g heap i ≡ chunkFor (g .size) (recordAddress g i) x)
             (same-chunk c (a .heap) j long (v .heapLong) h)
             (λ i k ne. whole-chunk c (a .heap) (g .chunk) i j (omega (arith, laid .law .sizes .chunks)) ne ∙ v .chunks i k);
         names = λ i k. stamped-word before j t i bufferAt (omega arith) ∙ next-name (a .records) j head i ∙ v .names i k;
-        entries = at-put (g .«heap_base») (g .chunk) (g .count) j (chunk-some g laid) none out (λ i x. LawfulEntry (g .size) x) tt (λ i k ne. v .entries i k);
-        stray = λ x q. stray-put (g .«heap_base») (g .chunk) (g .count) j (chunk-some g laid) none out x h q ∙ v .stray x q;
+        entries = each-entry j none out (λ i x. LawfulEntry (g .size) x) tt (λ i k ne. v .entries i k);
+        stray = λ x q. stray-entry j none out x h q ∙ v .stray x q;
       }
 
-  pub stored-keeps : {head : ℕ} {a : Areas} {out : ℕ → Option Entry} {chain : List ℕ} (j : ℕ) (o : Entry) (offset : ℕ) (bytes : List ℕ) → Invariant g head a out chain
-      → j < g .count → out (bufferAddress g j) ≡ some o → offset + length bytes ≤ grantSize (g .size) (o .grant)
+  pub stored-keeps : {head : ℕ} {a : Areas} {out : ℕ → Option Entry} {chain : List ℕ} (j : ℕ) (o : Entry) (offset : ℕ) (bytes : List ℕ)
+      → Invariant g head a out chain → j < g .count → out (bufferAddress g j) ≡ some o → offset + length bytes ≤ grantSize (g .size) (o .grant)
       → Invariant g head (storedAreas a offset bytes (hold g laid head j (o .grant))) (put (bufferAddress g j) (overwritten offset bytes (some o)) out) chain
   unfolding storedAreas
   stored-keeps {head} {a} {out} {chain} j o offset bytes v h e fits =
@@ -136,16 +145,16 @@ module _ (g : Sheet) (laid : Laid g) where
         heapLong = length-sets (a .heap) (j * g .chunk + offset) bytes ∙ v .heapLong;
         recordsLong = v .recordsLong;
         linked = v .linked;
-        each = at-put (g .«heap_base») (g .chunk) (g .count) j (chunk-some g laid) new out (λ i x. occ i chain + outs x ≡ 1)
+        each = each-entry j new out (λ i x. occ i chain + outs x ≡ 1)
             (omega (arith, v .each j h, ap outs e)) (λ i k ne. v .each i k);
         only = v .only;
-        chunks = at-put (g .«heap_base») (g .chunk) (g .count) j (chunk-some g laid) new out (λ i x. chunkIn g heap i ≡ chunkFor (g .size) (recordAddress g i) x)
+        chunks = each-entry j new out (λ i x. chunkIn g heap i ≡ chunkFor (g .size) (recordAddress g i) x)
             (part-inside bytes (a .heap) (j * g .chunk) (g .chunk) offset inside
             ∙ ap (λ (x : List ℕ). sets x offset bytes) (chunk-is g laid v j h (some o) e)
             ∙ store-chunk (g .size) (recordAddress g j) offset bytes o l fits)
             (λ i k ne. other-chunk bytes (a .heap) (g .chunk) i j offset inside ne ∙ v .chunks i k);
         names = v .names;
-        entries = at-put (g .«heap_base») (g .chunk) (g .count) j (chunk-some g laid) new out (λ i x. LawfulEntry (g .size) x)
+        entries = each-entry j new out (λ i x. LawfulEntry (g .size) x)
             (store-lawful (g .size) offset bytes o l) (λ i k ne. v .entries i k);
-        stray = λ x q. stray-put (g .«heap_base») (g .chunk) (g .count) j (chunk-some g laid) new out x h q ∙ v .stray x q;
+        stray = λ x q. stray-entry j new out x h q ∙ v .stray x q;
       }

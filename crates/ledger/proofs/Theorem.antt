@@ -31,7 +31,7 @@ use Rattle.ledger.proofs.Invariant.{Laid, outs, Invariant, opens}
 use Rattle.ledger.proofs.Found.{entered-sound, image, own-is, chain-is, verdict-is, found-count}
 use Rattle.ledger.proofs.Calls.{none-out, taken-below, taken-in, allocate-none, allocate-some, show-out, show-in, client-is}
 use Rattle.ledger.proofs.Start.{accepted, laid-known}
-use Rattle.ledger.proofs.Always.{RunInvariant, by-address, run-keeps, start-keeps}
+use Rattle.ledger.proofs.Always.{RunInvariant, by-address, run-keeps, begun-keeps}
 
 times-met : (o : Option Entry) (k : ℕ) → k + outs o ≡ 1 → k ≡ timesMet o
 times-met none k e = omega arith
@@ -142,4 +142,4 @@ theorem a cache heap records size n h e calls =
     let k = accepted a cache heap records size n e in
     let g = laidSheet cache heap records size n in
     let laid : Laid g = laid-known cache heap records size n h (k .0) in
-    rw (k .1) (sound g laid _ (run-keeps g laid calls _ (start-keeps g laid refl)))
+    rw (k .1) (sound g laid _ (run-keeps g laid calls _ (begun-keeps g laid refl)))

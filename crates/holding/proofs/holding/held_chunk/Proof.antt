@@ -46,6 +46,12 @@ returns c =
     rw (chunk-named (imageIn (a .g) (a .heap) (a .records)) _ _ _ _ (named n) (sym (b .buffer .ensures) ∙ c .before .if1 .taken), ← chunk)
     (c .held-by .ensures)
 
+returns-2 : tie.Need-returns-2
+unfolding heldChunk
+returns-2 c =
+    let f = c .before .before in
+    rw (← f .before .before .chunk .ensures, ← f .before .read-tag .ensures, ← f .find-record .ensures, c .enum-told .given .1)
+
 returns-3 : tie.Need-returns-3
 returns-3 c =
     let b = c .before in
@@ -54,7 +60,6 @@ returns-3 c =
     sym (chunk-unnamed (imageIn (a .g) (a .heap) (a .records)) _ _ _ _ (named n) (λ e. c .if1 .left (b .buffer .ensures ∙ e)))
 
 pub held-chunk-spec : {M : Type 1} → statement M
-unfolding heldChunk
 held-chunk-spec =
     tie.close
     (tie.spec
@@ -64,5 +69,5 @@ held-chunk-spec =
     (λ c κs. let s = start (c .before) in (s .pre .0 .law, (s .pre .0 .recordsLong, own (c .before))))
     (λ c κs. lawful (c .before .before .before .before .before .before .before))
     returns
-    (λ c. let f = c .before .before in rw (← f .before .before .chunk .ensures, ← f .before .read-tag .ensures, ← f .find-record .ensures, c .enum-told .given .1))
+    returns-2
     returns-3)

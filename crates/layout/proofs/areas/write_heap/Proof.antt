@@ -27,8 +27,12 @@ loop-again c =
     let a = w .before in
     let l = a .before .before .before in
     let s = l .before .before in
-    let g = s .args .g in
-    (search needs, search needs, flat-more (g .chunk) (laidChunk g) (laid-chunk-long g (s .pre .0)) _ _ (l .loop .inv .2) (rw (w .write-free .ensures, a .record-address .ensures)))
+    let g = s .args .g in (
+      search needs,
+      search needs,
+      flat-more (g .chunk) (laidChunk g) (laid-chunk-long g (s .pre .0)) _ _ (l .loop .inv .2)
+          (rw (w .write-free .ensures, a .record-address .ensures)),
+    )
 
 returns : tie.Need-returns Inv-loop μ-loop
 unfolding laidAreas

@@ -8,7 +8,8 @@ returns : tie.Need-returns
 returns c =
     let w = c .before .before in
     let b = w .before in
-    rw (w .write .ensures, b .buffer-address .ensures, b .before .link-to .ensures, add-one (c .before .before .before .before .before .before .before .args .i))
+    let s = b .before .before .before .before in
+    rw (w .write .ensures, b .buffer-address .ensures, b .before .link-to .ensures, add-one (s .args .i))
 
 pub write-record-spec : {M : Type 1} → statement M
 write-record-spec =
