@@ -58,8 +58,8 @@ use Rattle.tags.specs.declared.refusal.Answer.{Answer}
 use Rattle.sheet.specs.Areas.{lent}
 use Rattle.image.proofs.inspect.Finding as T
 use Rattle.image.proofs.inspect.Finding.Laws as T′
-use Rattle.area.proofs.refusal.Answer as I
-use Rattle.area.proofs.refusal.Answer.Laws as I′
+use Rattle.tags.proofs.refusal.Answer as I
+use Rattle.tags.proofs.refusal.Answer.Laws as I′
 use Rattle.image.proofs.inspect.inspect as inspect
 use Rattle.image.proofs.inspect.inspect.Symbol as inspect-def
 use Rattle.image.proofs.inspect.inspect.Symbol.{name as #image·inspect·inspect}
