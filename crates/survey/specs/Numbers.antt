@@ -1,0 +1,46 @@
+-- What the report says, as numbers: three for each buffer and three for the chain. Assumes nothing.
+use mathlib.Core.Bool.{_&&_, cond}
+use mathlib.Core.List.{List, [], _∷_}
+use Prim.Native.Nat.{ℕ, _*_}
+use lib.Dec.{leb}
+use lib.ListN.{length}
+use lib.Seq.{sets}
+use Rattle.tags.specs.Ending.{endingNumber, endingValue}
+use Rattle.tags.specs.declared.ending.Ending.{Ending}
+use Rattle.tags.specs.declared.refusal.Refusal.{Refusal}
+use Rattle.tags.specs.declared.refusal.Refusal.the-variants.{ShortOutput}
+use Rattle.tags.specs.declared.refusal.Answer.{Answer}
+use Rattle.tags.specs.declared.refusal.Answer.the-variants.{Value, Refused}
+use Rattle.sheet.specs.Areas.{Areas, Image, openingWithLog, byImage}
+use Rattle.verdicts.specs.Chain.{chainOf}
+use Rattle.survey.specs.Table.{tableOf}
+
+-- K14 (the chain as numbers): how many records it met, how it ends, and the record that it came back to
+abbrev pub chainNumbers : ℕ → Ending → List ℕ
+chainNumbers met e = met ∷ endingNumber e ∷ endingValue e ∷ []
+
+-- K14 (the numbers of an image's chain)
+abbrev pub chainRow : Image → List ℕ
+chainRow m = chainNumbers (length (chainOf m .met)) (chainOf m .ending)
+
+-- what such a survey answers, and the two lent rows afterwards
+pub record Numbered (A : Type 0) : Type 0 where
+  pub answer : A
+  pub rows : List ℕ
+  pub chain : List ℕ
+
+abbrev pub numbering : {A : Type 0} → A → List ℕ → List ℕ → Numbered A
+numbering answer rows chain = record { answer = answer; rows = rows; chain = chain }
+
+-- E1 (a refused survey leaves both rows)
+abbrev pub unnumbered : List ℕ → List ℕ → Refusal → Numbered Answer
+unnumbered rows chain why = numbering (Refused why) rows chain
+
+-- E8 (X11, after E3), F5: the need is three numbers for each buffer, and three for the chain
+unfoldable pub surveyNumbersOf : Areas → ℕ → List ℕ → List ℕ → Numbered Answer
+surveyNumbersOf a l rows chain =
+    byImage (openingWithLog a l) a
+    (λ m. cond (leb (m .sheet .count * 3) (length rows) && leb 3 (length chain))
+    (numbering (Value (m .sheet .count)) (sets rows 0 (tableOf m)) (sets chain 0 (chainRow m)))
+    (unnumbered rows chain ShortOutput))
+    (unnumbered rows chain)

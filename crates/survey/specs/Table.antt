@@ -1,0 +1,32 @@
+-- The findings of an image as numbers: three for each buffer. Assumes nothing.
+use mathlib.Core.List.{List, [], _∷_}
+use Prim.Native.Nat.{ℕ, _*_}
+use lib.Seq.{sets}
+use Rattle.words.specs.Word.{flat}
+use Rattle.tags.specs.Verdict.{verdictNumber, verdictValue}
+use Rattle.tags.specs.Filling.{Filling, filling, unfilled, ifRoom}
+use Rattle.tags.specs.declared.verdict.Verdict.{Verdict}
+use Rattle.tags.specs.declared.refusal.Refusal.the-variants.{ShortOutput}
+use Rattle.tags.specs.declared.refusal.Answer.{Answer}
+use Rattle.tags.specs.declared.refusal.Answer.the-variants.{Value, Refused}
+use Rattle.sheet.specs.Areas.{Areas, Image, opening, byImage}
+use Rattle.verdicts.specs.Judge.{verdictOf}
+
+-- K12 (findings as numbers): the index, the verdict's number, and its size or offset, else 0
+abbrev pub numbersOf : ℕ → Verdict → List ℕ
+numbersOf i v = i ∷ verdictNumber v ∷ verdictValue v ∷ []
+
+-- K12 (the numbers of buffer i of an image)
+abbrev pub rowOf : Image → ℕ → List ℕ
+rowOf m i = numbersOf i (verdictOf m i)
+
+-- K12 (the numbers of all buffers of an image, one behind the other)
+unfoldable pub tableOf : Image → List ℕ
+tableOf m = flat (m .sheet .count) (rowOf m)
+
+-- K12, E8: the same tests as inspect has; the need is three numbers for each buffer
+unfoldable pub tabulateOf : Areas → List ℕ → Filling Answer ℕ
+tabulateOf a rows =
+    byImage (opening a) a
+    (λ m. ifRoom (m .sheet .count * 3) rows (filling (Value (m .sheet .count)) (sets rows 0 (tableOf m))) (Refused ShortOutput))
+    (λ why. unfilled (Refused why) rows)
