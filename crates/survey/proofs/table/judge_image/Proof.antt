@@ -6,7 +6,6 @@ use native.Mathlib.Omega.{arith}
 use borrow.Author.Needs.{needs}
 use lib.ListN.{length, take, drop, replicate, length-append, length-replicate}
 use lib.Seq.{length-take-le}
-use Rattle.verdicts.specs.Marks.{marksIn}
 use Rattle.verdicts.proofs.Counts.{length-marks}
 use Rattle.survey.proofs.Rows.{first-marks}
 use Rattle.survey.proofs.table.judge_image.Statement.{statement}
