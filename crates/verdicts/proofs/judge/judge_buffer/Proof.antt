@@ -11,9 +11,9 @@ use Rattle.chunks.specs.Chunk.{ChunkLength, tagAt}
 use Rattle.tags.specs.Tag.{patternOf}
 use Rattle.tags.specs.declared.tag.Tag.{Tag}
 use Rattle.tags.specs.declared.ending.Ending.{Ending}
-use Rattle.sheet.specs.Geometry.{chunkPlace, recordAddress}
+use Rattle.geometry.specs.Sheet.{chunkPlace, recordAddress}
 use Rattle.sheet.specs.Areas.{Image, image, chunkAt}
-use Rattle.sheet.proofs.Sheets.{chunk-inside, chunk-length}
+use Rattle.geometry.proofs.Sheets.{chunk-inside, chunk-length}
 use Rattle.verdicts.specs.Marks.{namesDigit, namesAfter}
 use Rattle.verdicts.specs.Judge.{chainedVerdict, standing, againAt}
 use Rattle.verdicts.proofs.Counts.{length-marks, marks-names, marks-met}
