@@ -65,16 +65,16 @@ grantedAreas a q s p =
     (sets (a .heap) (chunkStart p) (grantedChunk (p .sheet .size) (p .sheet .head) q))
     (stamped (a .records) (p .own) s)
 
--- K5 (allocate answers the buffer's address), E1: by its plan
+-- K5 (allocate answers the buffer's address), E1 (a refusal): by its plan
 abbrev pub allocateResult : Areas → Grant → Stamp → AllocatePlan → Result Answer
 allocateResult a q s (Take p) = result (answer.Value (bufferStart p)) (grantedAreas a q s p)
 allocateResult a q s (Refused why) = refusedWith (answer.Refused why) a
 
+-- K5, K6, E5 (allocate)
 unfoldable pub allocateOf : Areas → Grant → Stamp → Result Answer
 allocateOf a q s = allocateResult a q s (allocatePlan a q)
 
--- ---- what is known of a buffer that is taken, in areas of s, h and r bytes
-
+-- what is known of a buffer that is taken, in areas of s, h and r bytes
 pub record Takes (s h r : ℕ) (q : Grant) (p : Spot) : Type 0 where
   pub within : Within s h r p
   pub granted : lawfulSize (p .sheet .size) q ≡ true

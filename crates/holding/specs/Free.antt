@@ -43,10 +43,11 @@ freedAreas a s p =
     (sets (a .heap) (chunkStart p) (freeChunk (p .sheet .size) (recordStart p)))
     (stamped (withNext (a .records) (p .own) (p .sheet .head)) (p .own) s)
 
--- K7 (free), E1: by its plan
+-- K7 (free), E1 (a refusal): by its plan
 abbrev pub freeResult : Areas → Stamp → Held → Result Answer
 freeResult a s (held.Buffer p) = result done (freedAreas a s (p .spot))
 freeResult a s (held.Refused why) = refusedWith (Refused why) a
 
+-- K7, E6 (free)
 unfoldable pub freeOf : Areas → ℕ → Grant → Stamp → Result Answer
 freeOf a address q s = freeResult a s (freePlan a address q)

@@ -52,15 +52,15 @@ heldChunk m c address i =
 unfoldable pub heldOf : Image → ℕ → Held
 heldOf m address = byPlace (bufferOf (m .sheet) address) (λ i. heldChunk m (chunkAt m i) address i) (Refused NoSuchBuffer)
 
--- C5 (where the client's own bytes start in the heap, and how many they are)
+-- C5 (where the client's own bytes start in the heap)
 abbrev pub clientAt : Holding → ℕ
 clientAt p = chunkStart (p .spot)
 
+-- C5 (how many bytes of its buffer a client has)
 abbrev pub clientSize : Holding → ℕ
 clientSize p = grantSize (p .spot .sheet .size) (p .grant)
 
--- ---- what is known of a buffer that is held, in areas of s, h and r bytes
-
+-- what is known of a buffer that is held, in areas of s, h and r bytes
 pub record HeldWithin (s h r : ℕ) (p : Holding) : Type 0 where
   pub within : Within s h r (p .spot)
   pub granted : lawfulSize (p .spot .sheet .size) (p .grant) ≡ true

@@ -28,10 +28,11 @@ storePlan a address offset len = byImage (opening a) a (λ m. storeTest offset l
 unfoldable pub storedAreas : Areas → ℕ → List ℕ → Holding → Areas
 storedAreas a offset bytes p = areas (a .sheet) (sets (a .heap) (clientAt p + offset) bytes) (a .records)
 
--- K9 (store), E1: by its plan
+-- K9 (store), E1 (a refusal): by its plan
 abbrev pub storeResult : Areas → ℕ → List ℕ → Held → Result Answer
 storeResult a offset bytes (held.Buffer p) = result done (storedAreas a offset bytes p)
 storeResult a offset bytes (held.Refused why) = refusedWith (Refused why) a
 
+-- K9, E6 (store)
 unfoldable pub storeOf : Areas → ℕ → ℕ → List ℕ → Result Answer
 storeOf a address offset bytes = storeResult a offset bytes (storePlan a address offset (length bytes))

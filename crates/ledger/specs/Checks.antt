@@ -38,6 +38,7 @@ refusedAs (answer.Refused why) = refusalNumber why
 abbrev pub rowOf : ℕ → ℕ → List ℕ
 rowOf a stamp = bytesOf 4 a ++ bytesOf 4 stamp ++ bytesOf 4 0 ++ bytesOf 4 2
 
+-- whether it is a row
 abbrev pub isRow : Place → Bool
 isRow (place.At k) = true
 isRow place.Nowhere = false
@@ -46,6 +47,7 @@ isRow place.Nowhere = false
 unfoldable pub rowLatest : ℕ → ℕ → ℕ → Bool
 rowLatest time stamp row = isRow (latestRow (rowOf 0x70ae3200 row) 0x70ae3200 time (firstBest stamp time) 1 .row)
 
+-- P1 to P12: the four kinds of worked case
 pub data Check : Type 0 where
   -- two tag words, and the state whose pattern their xor is
   tagged : (t0 t1 : ℕ) → State → Check
@@ -70,10 +72,11 @@ abbrev pub AllClaims : List Check → Type 0
 AllClaims [] = Unit {0}
 AllClaims (c ∷ cs) = ClaimOf c × AllClaims cs
 
--- a chunk of the free pattern, but for T1, and one of the allocated pattern
+-- a chunk of the free pattern, but for T1
 unfoldable pub freeWith : List ℕ → ℕ → List ℕ
 freeWith buffer t1 = chunkOf buffer redzone redzone 0x70ae3260 t1
 
+-- a chunk of the allocated pattern
 unfoldable pub allocatedWith : List ℕ → ℕ → ℕ → List ℕ
 allocatedWith buffer r0 r1 = chunkOf buffer r0 r1 0x70ae3200 0xd1befaed
 

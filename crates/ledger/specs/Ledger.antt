@@ -141,10 +141,11 @@ abbrev pub asEntered : Option Entry → Verdict
 asEntered none = verdict.Free
 asEntered (some o) = asGranted (o .grant)
 
--- 1 for a buffer that is found allocated, else 0, and how many of n are
+-- 1 for a buffer that is found allocated, else 0
 abbrev pub allocatedOne : Verdict → ℕ
 allocatedOne v = cond (isFoundAllocated (verdictNumber v)) 1 0
 
+-- B9 (the number found allocated), of n
 abbrev pub foundAllocated : (ℕ → Verdict) → ℕ → ℕ
 foundAllocated v n = total (λ i. allocatedOne (v i)) n
 
@@ -153,6 +154,7 @@ abbrev pub timesMet : Option Entry → ℕ
 timesMet none = 1
 timesMet (some o) = 0
 
+-- B2, B4 (whether it is out)
 abbrev pub isOut : Option Entry → Bool
 isOut none = false
 isOut (some o) = true

@@ -11,13 +11,15 @@ use Rattle.places.specs.declared.spot.Spot.{Spot}
 abbrev pub spot : Sheet → ℕ → ℕ → Spot
 spot g i j = record { sheet = g; buffer = i; own = j }
 
--- A1 (where its chunk stands in the heap, and its address), A2 (the address of its record)
+-- A1 (where its chunk stands in the heap)
 abbrev pub chunkStart : Spot → ℕ
 chunkStart p = chunkPlace (p .sheet) (p .buffer)
 
+-- A1 (its address)
 abbrev pub bufferStart : Spot → ℕ
 bufferStart p = bufferAddress (p .sheet) (p .buffer)
 
+-- A2 (the address of its record)
 abbrev pub recordStart : Spot → ℕ
 recordStart p = recordAddress (p .sheet) (p .own)
 
