@@ -28,9 +28,13 @@ put-chain-requires c κs =
     let opening = o .before .before .before .before in
     let records = opening .before .before .before .before .before .args .records .now in
     let z = known o .law .sizes in
-    let e = t .fill-table .ensures in
-    (omega arith, (omega (arith, e .1 .0, chain-short g records, z .few),
-    subst (λ (x : Ending). endingValue x < 4294967296) (sym (e .1 .1)) (omega (arith, ending-below g records z, z .few))))
+    let e = t .fill-table .ensures in (
+      omega arith,
+      (
+        omega (arith, e .1 .0, chain-short g records, z .few),
+        subst (λ (x : Ending). endingValue x < 4294967296) (sym (e .1 .1)) (omega (arith, ending-below g records z, z .few)),
+      ),
+    )
 
 returns-4 : tie.Need-returns-4
 unfolding surveyNumbersOf
