@@ -8,13 +8,10 @@ ghost use Rattle.lines.specs.Text.{decimalOf, headerOf, hasOffset, fault
 ghost use Rattle.lines.specs.Text.{Put, writing, refusalLineOf, mostBuffers, headerMost, lineMost, chainMost, faultsMost, longest};
 ghost use Rattle.tags.specs.Filling.{filling};
 ghost use Rattle.tags.specs.Refusal.{refusalNumber};
-ghost use Rattle.tags.specs.Verdict.{verdictNumber, verdictValue};
 ghost use Rattle.tags.specs.Ending.{endingValue};
 use tags::ending::Ending;
 use tags::refusal;
 use tags::refusal::Refusal;
-use tags::verdict;
-use tags::verdict::Verdict;
 use words::run;
 
 // No piece of a report of at most 100,000 buffers is longer: the header, the line of a buffer, the chain line, the last line.
@@ -122,14 +119,15 @@ fn put_verdict(output: &mut [u8], at: usize, i: usize, number: u32, value: u32) 
     put_fault(output, at, i, number, value)
 }
 
-// Puts the line of buffer i by its verdict.
-pub fn put_line(output: &mut [u8], at: usize, i: usize, v: Verdict) -> usize
+// The same, whose length is known: a verdict's number has two digits at most.
+pub fn put_line(output: &mut [u8], at: usize, i: usize, number: u32, value: u32) -> usize
     requires { ⌜ at < 2 ^ 61 ⌝ }
     requires { ⌜ i < mostBuffers ⌝ }
-    ensures put { λ r. ⌜ Put output at (lineOf i (verdictNumber v) (verdictValue v)) r ⌝ }
+    requires { ⌜ number < 100 ⌝ }
+    ensures put { λ r. ⌜ Put output at (lineOf i number value) r ⌝ }
     ensures short { λ r. ⌜ r ≤ at + lineMost ⌝ }
 {
-    put_verdict(output, at, i, verdict::number(v), verdict::value(v))
+    put_verdict(output, at, i, number, value)
 }
 
 // Puts the chain line.
@@ -172,11 +170,11 @@ pub fn put_faults(output: &mut [u8], at: usize, faults: usize) -> usize
 }
 
 // 1 for a verdict whose line is a fault line, else 0.
-pub fn fault(v: Verdict) -> usize
-    ensures is { λ r. ⌜ r ≡ faultOf (verdictNumber v) ⌝ }
+pub fn fault(number: u32) -> usize
+    ensures is { λ r. ⌜ r ≡ faultOf number ⌝ }
     ensures small { λ r. ⌜ r ≤ 1 ⌝ }
 {
-    if verdict::number(v) < 20 { 0 } else { 1 }
+    if number < 20 { 0 } else { 1 }
 }
 
 // Puts the line of a refusal.

@@ -35,9 +35,9 @@ fn put_report(
     let mut faults = 0;
     let mut i = 0;
     while i < n {
-        let v = judge::judge_buffer(heap, records, g, i, marks, ending);
-        at = text::put_line(output, at, i, v);
-        faults += text::fault(v);
+        let t = judge::tell_buffer(heap, records, g, i, marks, ending);
+        at = text::put_line(output, at, i, t.number, t.value);
+        faults += text::fault(t.number);
         i += 1;
     }
     at = text::put_chain(output, at, met, ending);

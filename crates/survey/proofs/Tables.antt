@@ -6,7 +6,7 @@ use native.Mathlib.Omega.{arith}
 use lib.ListN.{set}
 use lib.Seq.{sets}
 use Rattle.sheet.specs.Areas.{Image}
-use Rattle.verdicts.specs.Judge.{verdictOf}
+use Rattle.verdicts.specs.Judge.{verdictOf, toldOf}
 use Rattle.survey.specs.Table.{rowOf}
 
 pub three-stores : (l : List ℕ) (at a b c : ℕ) → set (set (set l at a) (at + 1) b) (at + 2) c ≡ sets l at (a ∷ b ∷ c ∷ [])
@@ -17,4 +17,4 @@ three-stores l at a b c =
 
 -- the numbers of buffer i of an image
 abbrev pub row : Image → ℕ → List ℕ
-row m i = rowOf i (verdictOf m i)
+row m i = rowOf i (toldOf (verdictOf m i))

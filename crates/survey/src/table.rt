@@ -15,22 +15,21 @@ use sheet::opening::Opened;
 use tags::ending::Ending;
 use tags::refusal::Answer;
 use tags::refusal::Refusal;
-use tags::verdict;
-use tags::verdict::Verdict;
 use verdicts::chain::Walked;
 use verdicts::judge;
+use verdicts::judge::Told;
 use verdicts::marks;
 
-// Writes the numbers of buffer i, by its verdict.
-fn put_row(rows: &mut [u32], i: usize, v: Verdict)
+// Writes the numbers of buffer i.
+fn put_row(rows: &mut [u32], i: usize, t: Told)
     requires { ⌜ i < 4294967296 ⌝ }
     requires { ⌜ i * 3 + 3 ≤ length (now rows) ⌝ }
-    ensures { λ _. ⌜ now (rows .exit) ≡ sets (now (rows .entry)) (i * 3) (rowOf i v) ⌝ }
+    ensures { λ _. ⌜ now (rows .exit) ≡ sets (now (rows .entry)) (i * 3) (rowOf i t) ⌝ }
 {
     let at = i * 3;
     rows[at] = i as u32;
-    rows[at + 1] = verdict::number(v);
-    rows[at + 2] = verdict::value(v);
+    rows[at + 1] = t.number;
+    rows[at + 2] = t.value;
 }
 
 // Judges every buffer of a marked image and writes its numbers.
@@ -45,8 +44,8 @@ fn judge_rows(heap: &[u8], records: &[u8], g: Sheet, marks: &[u8], ending: Endin
     let n = g.count;
     let mut i = 0;
     while i < n {
-        let v = judge::judge_buffer(heap, records, g, i, marks, ending);
-        put_row(rows, i, v);
+        let t = judge::tell_buffer(heap, records, g, i, marks, ending);
+        put_row(rows, i, t);
         i += 1;
     }
 }

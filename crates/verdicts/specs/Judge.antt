@@ -4,6 +4,7 @@ use mathlib.Core.List.{List}
 use Prim.Native.Nat.{ℕ}
 use lib.Dec.{eqb}
 use Rattle.tags.specs.Tag.{patternOf}
+use Rattle.tags.specs.Verdict.{verdictNumber, verdictValue}
 use Rattle.chunks.specs.Chunk.{tagAt}
 use Rattle.chunks.specs.Judge.{freeVerdict, allocatedVerdict}
 use Rattle.tags.specs.declared.tag.Pattern.{Pattern}
@@ -17,6 +18,7 @@ use Rattle.verdicts.specs.Pairing.{ownOf, byOwn}
 use Rattle.tags.specs.declared.ending.Ending.{Ending}
 use Rattle.tags.specs.declared.ending.Ending.the-variants.{End, Broken, Again}
 use Rattle.verdicts.specs.declared.judge.Standing.{Standing}
+use Rattle.verdicts.specs.declared.judge.Told.{Told}
 
 abbrev pub isFree : Pattern → Bool
 isFree pattern.Free = true
@@ -68,3 +70,7 @@ standingOf c j = standing (metBy c j) (againAt (c .ending) j)
 unfoldable pub verdictOf : Image → ℕ → Verdict
 verdictOf m i =
     byOwn (ownOf m i) (λ j. ownedVerdict (chunkAt m i) (recordAddress (m .sheet) j) (standingOf (chainOf m) j)) NotOneRecord
+
+-- J8 (a verdict as numbers): its number and its value
+abbrev pub toldOf : Verdict → Told
+toldOf v = record { number = verdictNumber v; value = verdictValue v }

@@ -7,7 +7,7 @@ ghost use Rattle.sheet.specs.Opening.{Open};
 ghost use Rattle.sheet.specs.Areas.{imageIn};
 ghost use Rattle.verdicts.specs.Chain.{chainIn};
 ghost use Rattle.verdicts.specs.Marks.{marksIn};
-ghost use Rattle.verdicts.specs.Judge.{chainedVerdict, againAt, verdictOf};
+ghost use Rattle.verdicts.specs.Judge.{chainedVerdict, againAt, verdictOf, toldOf};
 use crate::marks;
 use area::place::Place;
 use chunks::chunk;
@@ -17,12 +17,19 @@ use places::heap;
 use places::records;
 use tags::ending::Ending;
 use tags::tag::Pattern;
+use tags::verdict;
 use tags::verdict::Verdict;
 
 // What the chain says of a buffer's own record: whether it is met, and whether the chain is "again" at it.
 pub struct Standing {
     pub met: bool,
     pub again: bool,
+}
+
+// A verdict as numbers: its own, and its size or offset, 0 where it carries none.
+pub struct Told {
+    pub number: u32,
+    pub value: u32,
 }
 
 // The rules from 22 on, for a pattern that was read.
@@ -98,5 +105,27 @@ pub fn judge_buffer(
             };
             judge_chained(chunk, tag.pattern(), s)
         }
+    }
+}
+
+// The verdict on buffer i as numbers. Two numbers are handed back as they are, where the bytes of an enum are put together first.
+pub fn tell_buffer(
+    heap: &[u8],
+    records: &[u8],
+    g: Sheet,
+    i: usize,
+    marks: &[u8],
+    ending: Ending,
+) -> Told
+    requires { ⌜ Open (length (now heap)) (length (now records)) g ⌝ }
+    requires { ⌜ i < g .count ⌝ }
+    requires { ⌜ now marks ≡ marksIn g (now records) ⌝ }
+    requires { ⌜ ending ≡ chainIn g (now records) .ending ⌝ }
+    ensures { λ r. ⌜ r ≡ toldOf (verdictOf (imageIn g (heap .entry) (records .entry)) i) ⌝ }
+{
+    let v = judge_buffer(heap, records, g, i, marks, ending);
+    Told {
+        number: verdict::number(v),
+        value: verdict::value(v),
     }
 }

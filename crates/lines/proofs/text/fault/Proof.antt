@@ -5,11 +5,9 @@ use borrow.Author.Tests.{lt-leb, le-leb}
 use Rattle.lines.proofs.text.fault.Statement.{statement}
 use Rattle.lines.proofs.text.fault.Tie as tie
 
-returns : tie.Need-returns
-returns c = rw (← c .before .number .ensures) (simp (lt-leb 20 (c .before .number .result) (omega arith)) (search needs))
-
-returns-2 : tie.Need-returns-2
-returns-2 c = rw (← c .before .number .ensures) (simp (le-leb 20 (c .before .number .result) (omega arith)) (search needs))
-
 pub fault-spec : {M : Type 1} → statement M
-fault-spec = tie.close (tie.spec (λ c κs. search needs) returns returns-2)
+fault-spec =
+    tie.close
+    (tie.spec
+    (λ c. let n = c .before .args .number in simp (lt-leb 20 n (omega arith)) (search needs))
+    (λ c. let n = c .before .args .number in simp (le-leb 20 n (omega arith)) (search needs)))

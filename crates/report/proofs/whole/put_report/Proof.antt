@@ -8,13 +8,13 @@ use borrow.Author.Needs.{needs}
 use Rattle.words.proofs.Parts.{flat-nil, flat-suc}
 use Rattle.words.proofs.Sums.{total-zero, total-suc}
 use Rattle.tags.specs.Ending.{endingValue}
-use Rattle.tags.specs.Verdict.{verdictNumber, verdictValue}
 use Rattle.tags.specs.declared.ending.Ending.{Ending}
-use Rattle.tags.specs.declared.verdict.Verdict.{Verdict}
+use Rattle.verdicts.specs.declared.judge.Told.{Told}
 use Rattle.sheet.specs.Areas.{Image, image}
 use Rattle.lines.specs.Text.{lineOf, linesOf, faultOf, faultsIn, Wrote, mostBuffers, headerMost, lineMost}
-use Rattle.lines.proofs.Texts.{then, wrote-none}
+use Rattle.lines.proofs.Texts.{then, wrote-none, verdict-small}
 use Rattle.report.specs.Answer.{numberOf, valueOf, reportText}
+use Rattle.verdicts.specs.Judge.{verdictOf}
 use Rattle.verdicts.proofs.Chains.{chain-short, ending-below}
 use Rattle.report.proofs.Reports.{report-is}
 use Rattle.report.proofs.whole.put_report.Statement.{statement}
@@ -47,23 +47,30 @@ loop-holds c =
       subst (λ (x : List ℕ). Wrote (h .last .0) (h .result) x (h .last .0) (h .result)) none (wrote-none (h .last .0) (h .result)),
     )
 
+put-line-requires : tie.Need-put-line-requires Inv-loop μ-loop
+put-line-requires c κs =
+    let p = c .before .before .before in
+    let m = lent (p .before .before .before .before .before .before .before .before .before) in
+    let number = ap (λ (t : Told). t .number) (c .before .tell-buffer .ensures) in
+    (search needs, (search needs, omega (arith, number, verdict-small (verdictOf m (p .loop .i)))))
+
 loop-again : tie.Need-loop-again Inv-loop μ-loop
 loop-again c =
     let f = c .fault .ensures in
     let w = c .before .before .before .put-line in
-    let j = c .before .before .before .before .before .judge-buffer .ensures in
+    let j = c .before .before .before .before .before .tell-buffer .ensures in
     let p = c .before .before .before .before .before .before .before in
     let l = p .loop in
     let e = l .inv in
     let m = lent (p .before .before .before .before .before .before .before .before .before) in
     let line =
-    subst (λ (v : Verdict). Wrote (l .output) (l .at) (lineOf (l .i) (verdictNumber v) (verdictValue v)) (w .last .0) (w .result)) j
+    subst (λ (t : Told). Wrote (l .output) (l .at) (lineOf (l .i) (t .number) (t .value)) (w .last .0) (w .result)) j
     (w .ensures .0) in (
       search needs,
       omega (arith, f .1, e .1),
       omega (arith, w .ensures .1, e .2),
       rw (add-one, total-suc)
-          (ap (λ (x : ℕ). l .faults + x) (f .0 ∙ ap (λ (v : Verdict). faultOf (verdictNumber v)) j) ∙ ap (λ (x : ℕ). x + faultOf (numberOf m (l .i))) (e .3)),
+          (ap (λ (x : ℕ). l .faults + x) (f .0 ∙ ap (λ (t : Told). faultOf (t .number)) j) ∙ ap (λ (x : ℕ). x + faultOf (numberOf m (l .i))) (e .3)),
       rw (add-one, flat-suc) (then (e .4) line),
     )
 
@@ -104,7 +111,7 @@ put-report-spec =
     (λ c κs. search needs)
     loop-holds
     (λ c κs. search needs)
-    (λ c κs. search needs)
+    put-line-requires
     (λ c κs. search needs)
     (λ c. search needs)
     (λ c. search needs)

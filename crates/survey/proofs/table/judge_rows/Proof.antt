@@ -8,7 +8,7 @@ use lib.Seq.{sets}
 use lib.ListN.{length}
 use Rattle.words.specs.Word.{flat}
 use Rattle.words.proofs.Parts.{below, flat-none, flat-more}
-use Rattle.tags.specs.declared.verdict.Verdict.{Verdict}
+use Rattle.verdicts.specs.declared.judge.Told.{Told}
 use Rattle.sheet.specs.Areas.{image}
 use Rattle.survey.specs.Table.{rowOf, tableOf}
 use Rattle.survey.proofs.Tables.{row}
@@ -22,8 +22,8 @@ Inv-loop heap records g marks ending rows₀ n i₀ rows i =
 abbrev μ-loop : tie.MeasureT-loop
 μ-loop heap records g marks ending rows₀ n i₀ rows i = g .count - i
 
-judge-buffer-requires : tie.Need-judge-buffer-requires Inv-loop μ-loop
-judge-buffer-requires c κs =
+tell-buffer-requires : tie.Need-tell-buffer-requires Inv-loop μ-loop
+tell-buffer-requires c κs =
     let p = c .before .before .before .before .before .before .pre in
     (p .0, (search needs, (p .1 .0, p .1 .1 .0)))
 
@@ -41,7 +41,7 @@ loop-again c =
     let w = c .before .before in
     let j = w .before .before in
     let l = j .before .before in
-    let put = w .put-row .ensures ∙ ap (λ (v : Verdict). sets (l .loop .rows) (l .loop .i * 3) (rowOf (l .loop .i) v)) (j .judge-buffer .ensures) in
+    let put = w .put-row .ensures ∙ ap (λ (t : Told). sets (l .loop .rows) (l .loop .i * 3) (rowOf (l .loop .i) t)) (j .tell-buffer .ensures) in
     (search needs, search needs, flat-more 3 _ (λ i. refl) _ _ (l .loop .inv .2) put)
 
 returns : tie.Need-returns Inv-loop μ-loop
@@ -59,4 +59,4 @@ judge-rows-spec =
     (tie.spec
     Inv-loop μ-loop
     (λ c. (omega arith, refl, flat-none 3 _ (λ i. refl) _))
-    judge-buffer-requires put-row-requires (λ c. search needs) (λ c. search needs) loop-again (λ c. search needs) returns)
+    tell-buffer-requires put-row-requires (λ c. search needs) (λ c. search needs) loop-again (λ c. search needs) returns)
