@@ -47,14 +47,13 @@ pub fn read_at(records: &[u8], base: u32, address: u32) -> u32
     }
 }
 
-// The word at an offset of record j.
-pub fn read(records: &[u8], base: u32, j: usize, offset: usize) -> u32
+// The word at an offset of record j, which has an index and is read by its place.
+pub fn read(records: &[u8], j: usize, offset: usize) -> u32
     requires { ⌜ j * recordSize + recordSize ≤ length (now records) ⌝ }
-    requires { ⌜ base + j * recordSize + recordSize ≤ 4294967296 ⌝ }
     requires { ⌜ offset + 4 ≤ recordSize ⌝ }
     ensures { λ r. ⌜ r ≡ recordWord (now (records .entry)) j offset ⌝ }
 {
-    read_at(records, base, base + (j * SIZE + offset) as u32)
+    word::read_u32(records, j * SIZE + offset)
 }
 
 // Record j, as a part of the record area.

@@ -17,7 +17,7 @@ pub fn next(records: &[u8], g: Sheet, j: usize) -> u32
     requires { ⌜ j < g .count ⌝ }
     ensures { λ r. ⌜ r ≡ nextWord (now (records .entry)) j ⌝ }
 {
-    record::read(records, g.record_base, j, record::NEXT)
+    record::read(records, j, record::NEXT)
 }
 
 // The address of the buffer that record j names.
@@ -27,7 +27,7 @@ pub fn buffer(records: &[u8], g: Sheet, j: usize) -> u32
     requires { ⌜ j < g .count ⌝ }
     ensures { λ r. ⌜ r ≡ addressWord (now (records .entry)) j ⌝ }
 {
-    record::read(records, g.record_base, j, record::BUFFER)
+    record::read(records, j, record::BUFFER)
 }
 
 // The high half of record j's timestamp.
@@ -37,7 +37,7 @@ pub fn stamp_high(records: &[u8], g: Sheet, j: usize) -> u32
     requires { ⌜ j < g .count ⌝ }
     ensures { λ r. ⌜ r ≡ stampHigh (now (records .entry)) j ⌝ }
 {
-    record::read(records, g.record_base, j, record::STAMP_HIGH)
+    record::read(records, j, record::STAMP_HIGH)
 }
 
 // The low half of record j's timestamp.
@@ -47,7 +47,7 @@ pub fn stamp_low(records: &[u8], g: Sheet, j: usize) -> u32
     requires { ⌜ j < g .count ⌝ }
     ensures { λ r. ⌜ r ≡ stampLow (now (records .entry)) j ⌝ }
 {
-    record::read(records, g.record_base, j, record::STAMP_LOW)
+    record::read(records, j, record::STAMP_LOW)
 }
 
 // Writes the next word of record j.

@@ -1,23 +1,17 @@
 -- The findings of an image as numbers. Assumes nothing.
-use mathlib.Core.List.{List, [], _∷_}
+use mathlib.Core.List.{List}
 use Prim.Native.Nat.{ℕ, _*_}
 use lib.Seq.{sets}
-use Rattle.words.specs.Word.{flat}
 use Rattle.tags.specs.Filling.{Filling, filling, unfilled, ifRoom}
 use Rattle.tags.specs.declared.refusal.Refusal.the-variants.{ShortOutput}
 use Rattle.tags.specs.declared.refusal.Answer.{Answer}
 use Rattle.tags.specs.declared.refusal.Answer.the-variants.{Value, Refused}
 use Rattle.sheet.specs.Areas.{Areas, Image, opening, byImage}
-use Rattle.verdicts.specs.Judge.{verdictOf, toldOf}
-use Rattle.verdicts.specs.declared.judge.Told.{Told}
+use Rattle.verdicts.specs.Judge.{rowsOf}
 
--- K12 (findings as numbers): the index, the verdict's number, and its size or offset, else 0
-abbrev pub rowOf : ℕ → Told → List ℕ
-rowOf i t = i ∷ t .number ∷ t .value ∷ []
-
--- K12 (three for each buffer, from 3 i on): the numbers of all findings of an image
+-- K12 (findings as numbers, three for each buffer, from 3 i on): the numbers of all findings of an image
 unfoldable pub tableOf : Image → List ℕ
-tableOf m = flat (m .sheet .count) (λ i. rowOf i (toldOf (verdictOf m i)))
+tableOf m = rowsOf m 0 (m .sheet .count)
 
 -- K12, E8: the same tests as inspect has; the need is three numbers for each buffer
 unfoldable pub tabulateOf : Areas → List ℕ → Filling Answer ℕ

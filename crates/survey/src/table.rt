@@ -1,54 +1,21 @@
 // The findings of an image as numbers, three for each buffer: its index, the number of its verdict, and its size or offset.
 ghost use mathlib.Core.Path.{_≡_};
-ghost use Prim.Native.Nat.{_+_, _*_, _≤_, _<_};
+ghost use Prim.Native.Nat.{_*_, _≤_};
 ghost use lib.ListN.{length};
 ghost use lib.Seq.{sets};
 ghost use Rattle.tags.specs.Filling.{filling};
 ghost use Rattle.sheet.specs.Areas.{before, imageIn};
 ghost use Rattle.sheet.specs.Opening.{Open};
 ghost use Rattle.verdicts.specs.Chain.{chainIn};
-ghost use Rattle.verdicts.specs.Marks.{marksIn};
-ghost use Rattle.survey.specs.Table.{rowOf, tableOf, tabulateOf};
+ghost use Rattle.survey.specs.Table.{tableOf, tabulateOf};
 use geometry::sheet::Sheet;
 use sheet::opening;
 use sheet::opening::Opened;
-use tags::ending::Ending;
 use tags::refusal::Answer;
 use tags::refusal::Refusal;
 use verdicts::chain::Walked;
 use verdicts::judge;
-use verdicts::judge::Told;
 use verdicts::marks;
-
-// Writes the numbers of buffer i.
-fn put_row(rows: &mut [u32], i: usize, t: Told)
-    requires { ⌜ i < 4294967296 ⌝ }
-    requires { ⌜ i * 3 + 3 ≤ length (now rows) ⌝ }
-    ensures { λ _. ⌜ now (rows .exit) ≡ sets (now (rows .entry)) (i * 3) (rowOf i t) ⌝ }
-{
-    let at = i * 3;
-    rows[at] = i as u32;
-    rows[at + 1] = t.number;
-    rows[at + 2] = t.value;
-}
-
-// Judges every buffer of a marked image and writes its numbers.
-fn judge_rows(heap: &[u8], records: &[u8], g: Sheet, marks: &[u8], ending: Ending, rows: &mut [u32])
-    requires { ⌜ Open (length (now heap)) (length (now records)) g ⌝ }
-    requires { ⌜ now marks ≡ marksIn g (now records) ⌝ }
-    requires { ⌜ ending ≡ chainIn g (now records) .ending ⌝ }
-    requires { ⌜ g .count * 3 ≤ length (now rows) ⌝ }
-    ensures { λ _. ⌜ now (rows .exit)
-        ≡ sets (now (rows .entry)) 0 (tableOf (imageIn g (heap .entry) (records .entry))) ⌝ }
-{
-    let n = g.count;
-    let mut i = 0;
-    while i < n {
-        let t = judge::tell_buffer(heap, records, g, i, marks, ending);
-        put_row(rows, i, t);
-        i += 1;
-    }
-}
 
 // Marks an open image, judges every buffer and writes its numbers, and answers what the chain met and how it ends.
 fn fill_marked(heap: &[u8], records: &[u8], g: Sheet, marks: &mut [u8], rows: &mut [u32]) -> Walked
@@ -62,7 +29,7 @@ fn fill_marked(heap: &[u8], records: &[u8], g: Sheet, marks: &mut [u8], rows: &m
 {
     let walked = marks::mark(records, g, marks);
     let ending = walked.ending;
-    judge_rows(heap, records, g, marks, ending, rows);
+    judge::tell_buffers(heap, records, g, 0, g.count, marks, ending, rows);
     walked
 }
 

@@ -1,8 +1,9 @@
 -- The verdict on a buffer: J2 (the first rule that holds). Assumes nothing.
 use mathlib.Core.Bool.{Bool, true, false, _&&_, not, cond}
-use mathlib.Core.List.{List}
-use Prim.Native.Nat.{ℕ}
+use mathlib.Core.List.{List, [], _∷_}
+use Prim.Native.Nat.{ℕ, _+_}
 use lib.Dec.{eqb}
+use Rattle.words.specs.Word.{flat}
 use Rattle.tags.specs.Tag.{patternOf}
 use Rattle.tags.specs.Verdict.{verdictNumber, verdictValue}
 use Rattle.chunks.specs.Chunk.{tagAt}
@@ -74,3 +75,11 @@ verdictOf m i =
 -- J8 (a verdict as numbers): its number and its value
 abbrev pub toldOf : Verdict → Told
 toldOf v = record { number = verdictNumber v; value = verdictValue v }
+
+-- K12 (findings as numbers): the index, the verdict's number, and its size or offset, else 0
+abbrev pub rowOf : ℕ → Told → List ℕ
+rowOf i t = i ∷ t .number ∷ t .value ∷ []
+
+-- K12 (three for each buffer): those of n buffers from one on
+abbrev pub rowsOf : Image → ℕ → ℕ → List ℕ
+rowsOf m from n = flat n (λ k. rowOf (from + k) (toldOf (verdictOf m (from + k))))

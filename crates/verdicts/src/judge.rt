@@ -1,13 +1,14 @@
 // The verdict on a buffer: the first rule that holds, by the marks and by the buffer's tag.
 ghost use mathlib.Core.Path.{_≡_};
-ghost use Prim.Native.Nat.{_<_};
+ghost use Prim.Native.Nat.{_+_, _*_, _≤_, _<_};
 ghost use lib.ListN.{length};
+ghost use lib.Seq.{sets};
 ghost use Rattle.chunks.specs.Chunk.{ChunkLength};
 ghost use Rattle.sheet.specs.Opening.{Open};
 ghost use Rattle.sheet.specs.Areas.{imageIn};
 ghost use Rattle.verdicts.specs.Chain.{chainIn};
 ghost use Rattle.verdicts.specs.Marks.{marksIn};
-ghost use Rattle.verdicts.specs.Judge.{chainedVerdict, againAt, verdictOf, toldOf};
+ghost use Rattle.verdicts.specs.Judge.{chainedVerdict, againAt, verdictOf, toldOf, rowOf, rowsOf};
 use crate::marks;
 use area::place::Place;
 use chunks::chunk;
@@ -108,7 +109,47 @@ pub fn judge_buffer(
     }
 }
 
-// The verdict on buffer i as numbers. Two numbers are handed back as they are, where the bytes of an enum are put together first.
+// Writes the numbers of buffer i at row k: its index, and its verdict's number and value.
+fn put_row(rows: &mut [u32], k: usize, i: usize, v: Verdict)
+    requires { ⌜ i < 4294967296 ⌝ }
+    requires { ⌜ k * 3 + 3 ≤ length (now rows) ⌝ }
+    ensures { λ _. ⌜ now (rows .exit) ≡ sets (now (rows .entry)) (k * 3) (rowOf i (toldOf v)) ⌝ }
+{
+    let at = k * 3;
+    rows[at] = i as u32;
+    rows[at + 1] = verdict::number(v);
+    rows[at + 2] = verdict::value(v);
+}
+
+// The verdicts on `count` buffers from one on, as numbers into a lent row, three for each. Whoever wants one verdict as numbers asks
+// here too, so that the judging has this one caller and is compiled into its loop.
+pub fn tell_buffers(
+    heap: &[u8],
+    records: &[u8],
+    g: Sheet,
+    from: usize,
+    count: usize,
+    marks: &[u8],
+    ending: Ending,
+    rows: &mut [u32],
+)
+    requires { ⌜ Open (length (now heap)) (length (now records)) g ⌝ }
+    requires { ⌜ from + count ≤ g .count ⌝ }
+    requires { ⌜ now marks ≡ marksIn g (now records) ⌝ }
+    requires { ⌜ ending ≡ chainIn g (now records) .ending ⌝ }
+    requires { ⌜ count * 3 ≤ length (now rows) ⌝ }
+    ensures { λ _. ⌜ now (rows .exit)
+        ≡ sets (now (rows .entry)) 0 (rowsOf (imageIn g (heap .entry) (records .entry)) from count) ⌝ }
+{
+    let mut k = 0;
+    while k < count {
+        let v = judge_buffer(heap, records, g, from + k, marks, ending);
+        put_row(rows, k, from + k, v);
+        k += 1;
+    }
+}
+
+// The verdict on buffer i as numbers.
 pub fn tell_buffer(
     heap: &[u8],
     records: &[u8],
@@ -123,9 +164,10 @@ pub fn tell_buffer(
     requires { ⌜ ending ≡ chainIn g (now records) .ending ⌝ }
     ensures { λ r. ⌜ r ≡ toldOf (verdictOf (imageIn g (heap .entry) (records .entry)) i) ⌝ }
 {
-    let v = judge_buffer(heap, records, g, i, marks, ending);
+    let mut row = [0u32; 3];
+    tell_buffers(heap, records, g, i, 1, marks, ending, &mut row);
     Told {
-        number: verdict::number(v),
-        value: verdict::value(v),
+        number: row[1],
+        value: row[2],
     }
 }
