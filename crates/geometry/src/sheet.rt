@@ -97,6 +97,23 @@ impl Sheet {
         place::find(self.heap_base, self.chunk, self.count, word)
     }
 
+    // The same for the word of record j. Buffers mostly stand in the order of their records, up or down, so these two are tried first:
+    // then a comparison tells it, and no division.
+    pub fn find_paired(self, word: u32, j: usize) -> Place
+        requires { ⌜ Lawful self ⌝ }
+        requires { ⌜ j < self .count ⌝ }
+        ensures { λ r. ⌜ r ≡ bufferOf self word ⌝ }
+    {
+        if self.buffer_address(j) == word {
+            return Place::At(j);
+        }
+        let other = self.count - 1 - j;
+        if self.buffer_address(other) == word {
+            return Place::At(other);
+        }
+        self.find_buffer(word)
+    }
+
     // The record whose address a word is.
     pub fn find_record(self, word: u32) -> Place
         ensures { λ r. ⌜ r ≡ recordOf self word ⌝ }

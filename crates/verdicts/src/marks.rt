@@ -59,7 +59,7 @@ fn count_names(records: &[u8], g: Sheet, marks: &mut [u8])
     let n = g.count;
     let mut j = 0;
     while j < n {
-        let p = g.find_buffer(records::buffer(records, g, j));
+        let p = g.find_paired(records::buffer(records, g, j), j);
         match p {
             Place::At(i) => {
                 marks[i] = with_name(marks[i]);

@@ -31,7 +31,7 @@ module _ (c : tie.After-p Inv-loop μ-loop) where
       (index < a .g .count) × (w ≡ bufferAddress (a .g) index)
   names =
       let g = c .before .before .before .before .before .before .before .before .args .g in
-      let f = place-found (g .«heap_base») (g .chunk) (g .count) _ index (sym (c .before .before .find-buffer .ensures) ∙ c .p .given .1) in
+      let f = place-found (g .«heap_base») (g .chunk) (g .count) _ index (sym (c .before .before .find-paired .ensures) ∙ c .p .given .1) in
       (f .0, sym (c .before .before .before .buffer .ensures) ∙ f .1)
 
   in-marks : index < length (c .before .before .before .before .before .loop .marks)
@@ -72,7 +72,7 @@ loop-again c =
           (λ w. (
             ap length (w .2) ∙ l .inv .1 .0,
             subst (N (suc (l .j))) (sym (w .2)) (counted-miss (a .g) (a .records .now) (l .j) (l .marks)
-                (λ i m e. place-missed (a .g .«heap_base») (a .g .chunk) (a .g .count) _ some (sym (b .find-buffer .ensures) ∙ w .1 .given .1) i m
+                (λ i m e. place-missed (a .g .«heap_base») (a .g .chunk) (a .g .count) _ some (sym (b .find-paired .ensures) ∙ w .1 .given .1) i m
                 (b .before .buffer .ensures ∙ e)) (l .inv .1 .1)),
           ))
           (c .match .came)),
