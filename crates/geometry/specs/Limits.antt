@@ -9,12 +9,16 @@ use Rattle.geometry.specs.declared.sheet.Sheet.{Sheet}
 
 -- ---- X2: the limits
 
+-- S5 (the most buffers)
+abbrev pub countMost : ℕ
+countMost = 512
+
 -- S3 (buffer size), S4 (chunk size), S5 (n, and the heap's length), S6 (flags)
 unfoldable pub sizesLawful : ℕ → ℕ → ℕ → ℕ → Bool
 sizesLawful size chunk n flags =
     eqb (size % 8) 0 && leb 8 size && leb size 4096
     && eqb chunk (size + 16)
-    && leb 1 n && leb n 512 && leb (n * chunk) 65536
+    && leb 1 n && leb n countMost && leb (n * chunk) 65536
     && eqb flags flagsWord
 
 -- S7 (bases: multiples of 8, not 0), S8 (areas end at 2^32 at most and share no address)
@@ -35,7 +39,7 @@ pub record Sizes (size chunk n flags : ℕ) : Type 0 where
   pub most : size ≤ 4096
   pub chunks : chunk ≡ size + 16
   pub some : 1 ≤ n
-  pub few : n ≤ 512
+  pub few : n ≤ countMost
   pub area : n * chunk ≤ 65536
   pub flagsAre : flags ≡ flagsWord
 

@@ -4,6 +4,9 @@ ghost use Prim.Native.Nat.{_≤_};
 ghost use Rattle.geometry.specs.Limits.{sizesLawful, basesLawful, lawful};
 use crate::sheet::Sheet;
 
+// No image has more buffers.
+pub const MOST_BUFFERS: usize = 512;
+
 pub(crate) const FLAGS: u32 = 0x020f;
 
 // Whether the sizes, the count and the flags keep their limits.
@@ -25,7 +28,7 @@ fn sizes_lawful(size: usize, chunk: usize, count: usize, flags: u32) -> bool
     if count < 1 {
         return false;
     }
-    if 512 < count {
+    if MOST_BUFFERS < count {
         return false;
     }
     if 65536 < count * chunk {

@@ -7,6 +7,7 @@ use libc::STDOUT_FILENO;
 use lines::text;
 use lines::text::Written;
 use report::answer;
+use sheet::fields;
 use sheet::opening;
 use sheet::opening::Lengths;
 use tags::refusal::Answer;
@@ -79,7 +80,7 @@ fn read_on(sheet: &[u8]) {
 }
 
 fn main() {
-    let mut sheet = [0u8; 48];
+    let mut sheet = [0u8; fields::LENGTH];
     let n = io::read_full(STDIN_FILENO, &mut sheet);
     read_on(&sheet[..n]);
 }

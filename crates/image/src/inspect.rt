@@ -5,12 +5,13 @@ ghost use Prim.Native.Nat.{_≤_, _<_};
 ghost use lib.ListN.{length, take};
 ghost use Rattle.tags.specs.Filling.{filling};
 ghost use Rattle.geometry.specs.Sheet.{recordsLength};
-ghost use Rattle.geometry.specs.Limits.{Lawful};
+ghost use Rattle.geometry.specs.Limits.{Lawful, countMost};
 ghost use Rattle.sheet.specs.Areas.{before, imageIn};
 ghost use Rattle.verdicts.specs.Chain.{chainIn};
 ghost use Rattle.verdicts.specs.Marks.{marksIn};
 ghost use Rattle.verdicts.specs.Judge.{verdictOf};
 ghost use Rattle.image.specs.Inspect.{inspectOf, countOf, answerOf, foundBy, JudgesImage, Judges, Begins};
+use geometry::limits;
 use geometry::sheet::Sheet;
 use sheet::opening;
 use sheet::opening::Opened;
@@ -20,6 +21,9 @@ use tags::refusal::Refusal;
 use tags::verdict::Verdict;
 use verdicts::judge;
 use verdicts::marks;
+
+// A mark for each buffer that an image can have.
+type Marks = [u8; limits::MOST_BUFFERS];
 
 // What is found of a buffer: its index, and its verdict, with its size or offset.
 pub struct Finding {
@@ -47,8 +51,8 @@ fn mark_first(records: &[u8], g: Sheet, marks: &mut [u8]) -> Ending
 }
 
 // Opens an image and marks its records and buffers, for a lent row of so many findings.
-fn begin(sheet: &[u8], heap: &[u8], records: &[u8], rows: usize, marks: &mut [u8; 512]) -> Begun
-    requires { ⌜ length (now marks) ≡ 512 ⌝ }
+fn begin(sheet: &[u8], heap: &[u8], records: &[u8], rows: usize, marks: &mut Marks) -> Begun
+    requires { ⌜ length (now marks) ≡ countMost ⌝ }
     ensures { λ r. ⌜ Begins (before sheet heap records) rows r (now (marks .exit)) ⌝ }
 {
     let opened = opening::open(sheet, heap.len(), records.len());
@@ -92,7 +96,7 @@ fn judge_first(
 }
 
 // The finding of buffer i. Where no buffer is judged there is none, and this is not called.
-fn find(heap: &[u8], records: &[u8], begun: Begun, marks: &[u8; 512], i: usize) -> Finding
+fn find(heap: &[u8], records: &[u8], begun: Begun, marks: &Marks, i: usize) -> Finding
     requires { ⌜ Judges (now heap) (now records) (now marks) begun ⌝ }
     requires { ⌜ i < countOf begun ⌝ }
     ensures { λ r. ⌜ r ≡ foundBy (now (heap .entry)) (now (records .entry)) begun i ⌝ }
@@ -125,7 +129,7 @@ pub fn inspect(sheet: &[u8], heap: &[u8], records: &[u8], rows: &mut [Finding]) 
     ensures { λ r. ⌜ filling r (now (rows .exit))
         ≡ inspectOf (before sheet heap records) (now (rows .entry)) ⌝ }
 {
-    let mut marks = [0u8; 512];
+    let mut marks = [0u8; limits::MOST_BUFFERS];
     let begun = begin(sheet, heap, records, rows.len(), &mut marks);
     let n = count_of(begun);
     let mut i = 0;

@@ -13,7 +13,7 @@ use Rattle.chunks.specs.Judge.{freeVerdict, zoneVerdict, sizedVerdict, allocate
 use Rattle.chunks.specs.declared.chunk.Grant.the-variants as grant
 use Rattle.sheet.specs.Areas.{Areas}
 use Rattle.area.specs.Record.{recordBytes, withNext, stamped, recordWord}
-use Rattle.sheet.specs.Fields.{fieldIs, shaped, sheetOf, sheetBytes, withHead}
+use Rattle.sheet.specs.Fields.{sheetLength, fieldIs, shaped, sheetOf, sheetBytes, withHead}
 use Rattle.geometry.specs.Limits.{sizesLawful, basesLawful, lawful}
 use Rattle.sheet.specs.Opening.{measured, numbered, openedOf}
 use Rattle.area.specs.Place.{placeOf}
@@ -32,7 +32,7 @@ use Rattle.ledger.proofs.Theorem.{theorem}
 
 -- the areas before, of the lengths that lay out asks for
 areas₀ : Areas
-areas₀ = record { sheet = replicate 48 0; heap = replicate 48 0; records = replicate 192 0 }
+areas₀ = record { sheet = replicate sheetLength 0; heap = replicate 48 0; records = replicate 192 0 }
 
 -- the lay out is accepted
 laid₀ : layOutOf areas₀ 64 4096 8192 8 2 .answer ≡ done

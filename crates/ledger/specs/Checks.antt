@@ -14,6 +14,7 @@ use Rattle.tags.specs.Verdict.{verdictNumber, verdictValue}
 use Rattle.tags.specs.declared.tag.State.{State}
 use Rattle.tags.specs.declared.tag.State.the-variants as state
 use Rattle.chunks.specs.declared.chunk.Grant.the-variants as grant
+use Rattle.sheet.specs.Fields.{sheetLength}
 use Rattle.sheet.specs.Areas.{Areas, areas}
 use Rattle.area.specs.declared.place.Place.{Place}
 use Rattle.area.specs.declared.place.Place.the-variants as place
@@ -27,7 +28,7 @@ use Rattle.ledger.specs.Ledger.{stampOf, Call, allocate, resultOf, begun
 
 -- a fresh image of three buffers of 24 bytes
 unfoldable pub freshAreas : Areas
-freshAreas = layOutOf (areas (replicate 48 0) (replicate 120 0) (replicate 288 0)) 0x70039928 0x70a9add8 0x70ae31a0 24 3 .areas
+freshAreas = layOutOf (areas (replicate sheetLength 0) (replicate 120 0) (replicate 288 0)) 0x70039928 0x70a9add8 0x70ae31a0 24 3 .areas
 
 -- the number of the refusal of an allocate of the whole buffer, 0 where it is accepted
 abbrev pub refusedAs : Answer → ℕ

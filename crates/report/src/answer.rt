@@ -6,6 +6,7 @@ ghost use Rattle.sheet.specs.Opening.{Open};
 ghost use Rattle.sheet.specs.Areas.{before, imageIn};
 ghost use Rattle.report.specs.Answer.{reportText, reporting, reportOf};
 use crate::whole;
+use geometry::limits;
 use geometry::sheet::Sheet;
 use lines::text::Written;
 use sheet::opening;
@@ -42,7 +43,7 @@ fn report_image(heap: &[u8], records: &[u8], g: Sheet, output: &mut [u8]) -> Ans
     ensures { λ r. ⌜ filling r (now (output .exit))
         ≡ reporting (reportText (imageIn g (heap .entry) (records .entry))) (now (output .entry)) ⌝ }
 {
-    let mut area = [0u8; 512];
+    let mut area = [0u8; limits::MOST_BUFFERS];
     let n = g.count;
     report_marked(heap, records, g, &mut area[..n], output)
 }

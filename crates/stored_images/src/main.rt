@@ -3,13 +3,22 @@
 ghost use mathlib.Core.Path.{_≡_};
 ghost use Prim.Native.Nat.{_≤_};
 ghost use lib.ListN.{length};
+use area::record;
 use libc::STDIN_FILENO;
 use libc::STDOUT_FILENO;
 use lines::text;
 use lines::text::Written;
 use report::answer;
+use sheet::fields;
 use tags::refusal::Answer;
 use tags::refusal::Refusal;
+
+// Where the heap, the records and the end of an image stand.
+const HEAP: usize = fields::LENGTH;
+
+const RECORDS: usize = HEAP + 3 * 40;
+
+const END: usize = RECORDS + 3 * record::SIZE;
 
 // Writes the first n bytes of a text to standard output.
 fn write_out(text: &[u8], n: usize)
@@ -42,19 +51,19 @@ fn tell_image(image: &[u8])
     requires { ⌜ length (now image) ≡ 456 ⌝ }
 {
     tell(
-        &image[0..48],
-        &image[48..168],
-        &image[168..456],
-        &image[456..456],
+        &image[0..HEAP],
+        &image[HEAP..RECORDS],
+        &image[RECORDS..END],
+        &image[END..END],
     );
 }
 
 fn main() {
-    let mut image = [0u8; 456];
+    let mut image = [0u8; END];
     let mut i: usize = 0;
     while i < 64 {
         let n = io::read_full(STDIN_FILENO, &mut image);
-        if n < 456 {
+        if n < END {
             return;
         }
         tell_image(&image);

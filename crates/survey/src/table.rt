@@ -8,6 +8,7 @@ ghost use Rattle.sheet.specs.Areas.{before, imageIn};
 ghost use Rattle.sheet.specs.Opening.{Open};
 ghost use Rattle.verdicts.specs.Chain.{chainIn};
 ghost use Rattle.survey.specs.Table.{tableOf, tabulateOf};
+use geometry::limits;
 use geometry::sheet::Sheet;
 use sheet::opening;
 use sheet::opening::Opened;
@@ -42,7 +43,7 @@ pub(crate) fn fill_table(heap: &[u8], records: &[u8], g: Sheet, rows: &mut [u32]
     ensures met { λ r. ⌜ r .met ≡ length (chainIn g (now (records .entry)) .met) ⌝ }
     ensures ending { λ r. ⌜ r .ending ≡ chainIn g (now (records .entry)) .ending ⌝ }
 {
-    let mut area = [0u8; 512];
+    let mut area = [0u8; limits::MOST_BUFFERS];
     let n = g.count;
     fill_marked(heap, records, g, &mut area[..n], rows)
 }
