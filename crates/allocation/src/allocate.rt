@@ -109,7 +109,7 @@ fn take(heap: &[u8], records: &[u8], g: Sheet, grant: Grant) -> AllocatePlan
     AllocatePlan::Refused(Refusal::BadSize)
 }
 
-// What an allocation will do. It reads and writes nothing.
+// What an allocation will do. It only reads.
 fn plan(sheet: &[u8], heap: &[u8], records: &[u8], grant: Grant) -> AllocatePlan
     ensures { λ r. ⌜ r ≡ allocatePlan (before sheet heap records) grant ⌝ }
 {

@@ -44,6 +44,10 @@ stampHigh records j = recordWord records j stampHighAt
 abbrev pub stampLow : List ℕ → ℕ → ℕ
 stampLow records j = recordWord records j stampLowAt
 
+-- K8 (what a call is stamped with: its uptime and its thread)
+abbrev pub stampOf : ℕ → ℕ → Stamp
+stampOf uptime thread = record { uptime = uptime; thread = thread }
+
 -- K7 (the next word), in record j
 unfoldable pub withNext : List ℕ → ℕ → ℕ → List ℕ
 withNext records j next = sets records (j * recordSize + nextAt) (bytesOf 4 next)

@@ -1,7 +1,6 @@
 -- One number for each answer: bits 0 to 7 the refusal's number, 8 to 15 its detail, 32 to 63 the value. Assumes nothing.
 use mathlib.Core.Bool.{Bool, true, false}
 use Prim.Native.Nat.{ℕ, _+_, _*_}
-use Rattle.area.specs.declared.record.Stamp.{Stamp}
 use Rattle.chunks.specs.declared.chunk.Grant.{Grant}
 use Rattle.chunks.specs.declared.chunk.Grant.the-variants.{Whole, Sized}
 use Rattle.tags.specs.Refusal.{refusalNumber, refusalDetail}
@@ -36,10 +35,6 @@ latestWord (transaction.Refused why) = refusedWord why
 abbrev pub showWord : Shown → ℕ
 showWord (shown.Client at len) = acceptedWord len
 showWord (shown.Refused why) = refusedWord why
-
--- K8 (the stamp: uptime and thread)
-abbrev pub stampOf : ℕ → ℕ → Stamp
-stampOf uptime thread = record { uptime = uptime; thread = thread }
 
 -- F3 (where `whole` is true, `size` is not read)
 abbrev pub grantOf : Bool → ℕ → Grant

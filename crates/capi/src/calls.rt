@@ -1,5 +1,6 @@
 // The calls that a client makes.
 ghost use mathlib.Core.Path.{_≡_};
+ghost use Rattle.area.specs.Record.{stampOf};
 ghost use Rattle.sheet.specs.Areas.{before, after, result, answered};
 ghost use Rattle.layout.specs.Layout.{layOutOf};
 ghost use Rattle.allocation.specs.Allocate.{allocateOf};
@@ -7,7 +8,7 @@ ghost use Rattle.holding.specs.Free.{freeOf};
 ghost use Rattle.holding.specs.Store.{storeOf};
 ghost use Rattle.sheet.specs.Fields.{sheetOf};
 ghost use Rattle.holding.specs.Show.{shownOf, StartsAt};
-ghost use Rattle.capi.specs.Answer.{grantOf, stampOf, answerWord, showWord};
+ghost use Rattle.capi.specs.Answer.{grantOf, answerWord, showWord};
 use crate::answer;
 use allocation::allocate;
 use area::record::Stamp;

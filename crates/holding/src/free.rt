@@ -54,7 +54,7 @@ fn take_back(heap: &[u8], records: &[u8], g: Sheet, address: u32, grant: Grant) 
     }
 }
 
-// The buffer that a free takes back, or why it does not. It reads and writes nothing.
+// The buffer that a free takes back, or why it does not. It only reads.
 fn plan(sheet: &[u8], heap: &[u8], records: &[u8], address: u32, grant: Grant) -> Held
     ensures { λ r. ⌜ r ≡ freePlan (before sheet heap records) address grant ⌝ }
 {

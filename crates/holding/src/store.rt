@@ -36,7 +36,7 @@ fn fit(heap: &[u8], records: &[u8], g: Sheet, address: u32, offset: u32, len: us
     }
 }
 
-// The buffer that a store writes to, or why it does not. It reads and writes nothing.
+// The buffer that a store writes to, or why it does not. It only reads.
 fn plan(sheet: &[u8], heap: &[u8], records: &[u8], address: u32, offset: u32, len: usize) -> Held
     ensures { λ r. ⌜ r ≡ storePlan (before sheet heap records) address offset len ⌝ }
 {

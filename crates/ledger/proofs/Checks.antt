@@ -15,7 +15,7 @@ use Rattle.chunks.specs.Judge.{freeVerdict, allocatedVerdict, zoneVerdict, size
 use Rattle.tags.specs.Verdict.{verdictNumber, verdictValue}
 use Rattle.chunks.specs.declared.chunk.Grant.the-variants as grant
 use Rattle.area.specs.Log.{rowRecord, rowUptime}
-use Rattle.area.specs.Record.{recordBytes, stamped, recordWord}
+use Rattle.area.specs.Record.{stampOf, recordBytes, stamped, recordWord}
 use Rattle.sheet.specs.Fields.{fieldIs, shaped, sheetOf, sheetBytes, withHead}
 use Rattle.geometry.specs.Limits.{sizesLawful, basesLawful, lawful}
 use Rattle.sheet.specs.Opening.{measured, numbered, openedOf}
@@ -24,7 +24,7 @@ use Rattle.verdicts.specs.Judge.{standing, ownedVerdict, chainedVerdict}
 use Rattle.transactions.specs.Latest.{considered, latestRow}
 use Rattle.layout.specs.Layout.{linkTo, laidAreas, layOutPlan, layOutOf}
 use Rattle.allocation.specs.Allocate.{takenChunk, takenHead, takenOf, allocatePlan, grantedAreas, allocateOf}
-use Rattle.ledger.specs.Ledger.{stampOf, allocate, resultOf, put, begun, run}
+use Rattle.ledger.specs.Ledger.{allocate, resultOf, put, begun, run}
 use Rattle.ledger.specs.Checks.{Check, tagged, examined, aged, next, ClaimOf, AllClaims, checks}
 use Rattle.ledger.specs.Checks.{freshAreas, refusedAs, rowLatest, freeWith, allocatedWith}
 

@@ -12,7 +12,7 @@ use Rattle.chunks.specs.Chunk.{grantFill, chunkOf, freeChunk, grantedChunk, tag
 use Rattle.chunks.specs.Judge.{freeVerdict, zoneVerdict, sizedVerdict, allocatedVerdict}
 use Rattle.chunks.specs.declared.chunk.Grant.the-variants as grant
 use Rattle.sheet.specs.Areas.{Areas}
-use Rattle.area.specs.Record.{recordBytes, withNext, stamped, recordWord}
+use Rattle.area.specs.Record.{stampOf, recordBytes, withNext, stamped, recordWord}
 use Rattle.sheet.specs.Fields.{sheetLength, fieldIs, shaped, sheetOf, sheetBytes, withHead}
 use Rattle.geometry.specs.Limits.{sizesLawful, basesLawful, lawful}
 use Rattle.sheet.specs.Opening.{measured, numbered, openedOf}
@@ -27,7 +27,7 @@ use Rattle.tags.specs.declared.refusal.Refusal.the-variants.{NoSuchBuffer, NoRo
 use Rattle.tags.specs.Refusal.{done}
 use Rattle.tags.specs.declared.refusal.Answer.the-variants as answer
 use Rattle.tags.specs.declared.refusal.Answer.{Answer}
-use Rattle.ledger.specs.Ledger.{stampOf, Call, allocate, free, store, resultOf, put, RunState, begun, run, Sound}
+use Rattle.ledger.specs.Ledger.{Call, allocate, free, store, resultOf, put, RunState, begun, run, Sound}
 use Rattle.ledger.proofs.Theorem.{theorem}
 
 -- the areas before, of the lengths that lay out asks for

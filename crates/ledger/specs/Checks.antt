@@ -14,6 +14,7 @@ use Rattle.tags.specs.Verdict.{verdictNumber, verdictValue}
 use Rattle.tags.specs.declared.tag.State.{State}
 use Rattle.tags.specs.declared.tag.State.the-variants as state
 use Rattle.chunks.specs.declared.chunk.Grant.the-variants as grant
+use Rattle.area.specs.Record.{stampOf}
 use Rattle.sheet.specs.Fields.{sheetLength}
 use Rattle.sheet.specs.Areas.{Areas, areas}
 use Rattle.area.specs.declared.place.Place.{Place}
@@ -24,7 +25,7 @@ use Rattle.tags.specs.Refusal.{refusalNumber}
 use Rattle.layout.specs.Layout.{layOutOf}
 use Rattle.tags.specs.declared.refusal.Answer.{Answer}
 use Rattle.tags.specs.declared.refusal.Answer.the-variants as answer
-use Rattle.ledger.specs.Ledger.{stampOf, Call, allocate, resultOf, begun, run}
+use Rattle.ledger.specs.Ledger.{Call, allocate, resultOf, begun, run}
 
 -- a fresh image of three buffers of 24 bytes
 unfoldable pub freshAreas : Areas

@@ -39,10 +39,6 @@ use Rattle.holding.specs.declared.show.Shown.the-variants as shown
 
 -- ---- the calls
 
--- K8 (what a call is stamped with: its uptime and its thread)
-abbrev pub stampOf : ℕ → ℕ → Stamp
-stampOf uptime thread = record { uptime = uptime; thread = thread }
-
 -- K5 (allocate), K7 (free), K9 (store): with any numbers
 pub data Call : Type 0 where
   allocate : (q : Grant) (s : Stamp) → Call
