@@ -68,7 +68,8 @@ pub extern "C" fn cg_allocate(
     thread: u32,
 ) -> u64
     ensures { λ r. ⌜ result r (after sheet heap records)
-        ≡ answered answerWord (allocateOf (before sheet heap records) (grantOf whole size) (stampOf uptime thread)) ⌝ }
+        ≡ answered answerWord
+        (allocateOf (before sheet heap records) (grantOf whole size) (stampOf uptime thread)) ⌝ }
 {
     let asked = grant(whole, size);
     let granted = Stamp { uptime, thread };

@@ -60,8 +60,9 @@ all-hold (c ∷ cs) e = let both = and-eq-true-iff _ _ .0 e in (holds c (both .0
 computed : all checks ≡ true
 unfolding checks freeWith allocatedWith freshAreas run put layOutPlan layOutOf laidAreas sheetBytes recordBytes flat linkTo part number bytesOf
     numberAt repeated differenceFrom tagOf patternOf patternWord decodedOf chunkOf freeChunk grantedChunk tagAt ownedVerdict chainedVerdict
-    rowLatest rowRecord rowUptime considered latestRow freeVerdict allocatedVerdict zoneVerdict sizedVerdict ageOf stamped fieldIs shaped sheetOf withHead measured
-    numbered openedOf lawful sizesLawful basesLawful placeOf recordWord takenChunk takenHead takenOf allocatePlan grantedAreas allocateOf
+    rowLatest rowRecord rowUptime considered latestRow freeVerdict allocatedVerdict zoneVerdict sizedVerdict ageOf stamped fieldIs shaped
+    sheetOf withHead measured numbered openedOf lawful sizesLawful basesLawful placeOf recordWord takenChunk takenHead takenOf allocatePlan
+    grantedAreas allocateOf
 computed = refl
 
 pub checks-hold : AllClaims checks

@@ -28,7 +28,8 @@ pub numbered-known : (g : Sheet) (h r : ℕ) (o : Sheet) → numbered g h r ≡ 
 unfolding numbered measured
 numbered-known g h r o e = go (lawful g) (lengthsRight g h r) refl refl e
   where
-    go : (a b : Bool) → lawful g ≡ a → lengthsRight g h r ≡ b → cond a (cond b (opened.Sheet g) (opened.Refused BadLength)) (opened.Refused BadNumber) ≡ opened.Sheet o
+    go : (a b : Bool) → lawful g ≡ a → lengthsRight g h r ≡ b →
+        cond a (cond b (opened.Sheet g) (opened.Refused BadLength)) (opened.Refused BadNumber) ≡ opened.Sheet o
         → (o ≡ g) × Open h r o
     go true true l m f =
         let z : g ≡ o = cc in

@@ -21,14 +21,29 @@ returns c =
     let s = w .before .before .before .before .before in
     let p = s .pre in
     let a = s .args .record-at in
-    chunk-back _ _ _ _ (p .0) (p .1 .0) (p .1 .1) (w .before .before .before .chunk-place .ensures) (λ (n : ℕ). freeChunk n a) _ (λ n. length-freeChunk n a) (w .write-free .ensures)
+    chunk-back _ _ _ _ (p .0) (p .1 .0) (p .1 .1) (w .before .before .before .chunk-place .ensures) (λ (n : ℕ). freeChunk n a) _
+    (λ n. length-freeChunk n a) (w .write-free .ensures)
 
 pub write-free-spec : {M : Type 1} → statement M
 write-free-spec =
     tie.close
     (tie.spec
     (λ c κs. search needs)
-    (λ c. let s = c .before .before .before in let p = s .pre in omega (arith, small (s .args .g) (s .args .i) (c .before .chunk-place .result) (p .0) (p .1 .1) (c .before .chunk-place .ensures)))
+    (λ c.
+    let s = c .before .before .before in
+    let p = s .pre in
+    omega (
+      arith,
+      small (s .args .g) (s .args .i) (c .before .chunk-place .result)
+          (p .0) (p .1 .1) (c .before .chunk-place .ensures),
+    ))
     (λ c. search needs) (λ c. search needs)
-    (λ c. let s = c .before .before .before in let p = s .pre in omega (arith, inside (s .args .heap .now) (s .args .g) (s .args .i) (c .before .chunk-place .result) (p .0) (p .1 .0) (p .1 .1) (c .before .chunk-place .ensures)))
+    (λ c.
+    let s = c .before .before .before in
+    let p = s .pre in
+    omega (
+      arith,
+      inside (s .args .heap .now) (s .args .g) (s .args .i) (c .before .chunk-place .result)
+          (p .0) (p .1 .0) (p .1 .1) (c .before .chunk-place .ensures),
+    ))
     write-free-requires (λ c. search needs) returns)
