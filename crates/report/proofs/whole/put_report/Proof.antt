@@ -87,8 +87,9 @@ put-chain-requires c κs =
 
 -- the whole text, at the function's end
 whole : (c : tie.After-slice-known5 Inv-loop μ-loop) →
-    let s = c .before .before .before .before .before .before .before .before .before .before .before .before .before .before .before .before .before .before in
     let w = c .before .before .put-faults in
+    let t = c .before .before .before .before .before .before .before .before in
+    let s = t .before .before .before .before .before .before .before .before .before .before in
     Wrote (s .args .output .now) 0 (reportText (lent s)) (w .last .0) (w .result)
 whole c =
     let w = c .before .before .put-faults in
