@@ -32,7 +32,7 @@ byte m a = m + 2 * toTwo a
 byte-names : (m a : ℕ) → m ≤ 1 → namesDigit (byte m a) ≡ toTwo a
 byte-names m a h =
     let b : byte m a / 2 ≡ toTwo a = omega arith in
-    ap (λ (x : ℕ). x % 3) b ∙ (let t = two-most a in omega arith)
+    ap (λ (x : ℕ). x % 4) b ∙ (let t = two-most a in omega arith)
 
 byte-small : (m a : ℕ) → m ≤ 1 → byte m a < 6
 byte-small m a h = let t = two-most a in omega arith

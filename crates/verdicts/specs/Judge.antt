@@ -13,6 +13,7 @@ use Rattle.tags.specs.declared.tag.Pattern.the-variants as pattern
 use Rattle.tags.specs.declared.verdict.Verdict.{Verdict}
 use Rattle.tags.specs.declared.verdict.Verdict.the-variants.{NotOneRecord, BadTag, FreedTwice, OffChain, OnChain}
 use Rattle.geometry.specs.Sheet.{recordAddress}
+use Rattle.geometry.specs.Limits.{countMost}
 use Rattle.sheet.specs.Areas.{Image, chunkAt}
 use Rattle.verdicts.specs.Chain.{Chain, chainOf, metBy}
 use Rattle.verdicts.specs.Pairing.{ownOf, byOwn}
@@ -62,6 +63,12 @@ abbrev pub againAt : Ending → ℕ → Bool
 againAt End j = false
 againAt Broken j = false
 againAt (Again i) j = eqb i j
+
+-- H4 (the record that the chain is "again" at), else the number of buffers at most, which is no record's index
+abbrev pub againIndex : Ending → ℕ
+againIndex End = countMost
+againIndex Broken = countMost
+againIndex (Again i) = i
 
 -- H4, H5 (what a chain says of record j)
 abbrev pub standingOf : Chain → ℕ → Standing

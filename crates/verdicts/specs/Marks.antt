@@ -37,7 +37,7 @@ metDigit b = not (eqb (b % 2) 0)
 
 -- J1 (how many records name the buffer)
 abbrev pub namesDigit : ℕ → ℕ
-namesDigit b = b / 2 % 3
+namesDigit b = b / 2 % 4
 
 -- the byte with one record more that names the buffer
 abbrev pub withName : ℕ → ℕ

@@ -4,15 +4,18 @@ ghost use Prim.Native.Nat.{_+_, _*_, _≤_, _<_};
 ghost use lib.ListN.{length};
 ghost use lib.Seq.{sets};
 ghost use Rattle.chunks.specs.Chunk.{ChunkLength};
+ghost use Rattle.geometry.specs.Sheet.{recordOf};
+ghost use Rattle.geometry.specs.Limits.{Lawful, countMost};
 ghost use Rattle.sheet.specs.Opening.{Open};
 ghost use Rattle.sheet.specs.Areas.{imageIn};
 ghost use Rattle.verdicts.specs.Chain.{chainIn};
 ghost use Rattle.verdicts.specs.Marks.{marksIn};
-ghost use Rattle.verdicts.specs.Judge.{chainedVerdict, againAt, verdictOf, toldOf, rowOf, rowsOf};
+ghost use Rattle.verdicts.specs.Judge.{chainedVerdict, againAt, againIndex, verdictOf, toldOf, rowOf, rowsOf};
 use crate::marks;
 use area::place::Place;
 use chunks::chunk;
 use chunks::judge;
+use geometry::limits;
 use geometry::sheet::Sheet;
 use places::heap;
 use places::records;
@@ -61,15 +64,37 @@ fn judge_chained(chunk: &[u8], pattern: Pattern, s: Standing) -> Verdict
     }
 }
 
-// Whether the chain is "again" at record j.
-fn again_at(ending: Ending, j: usize) -> bool
-    ensures { λ r. ⌜ r ≡ againAt ending j ⌝ }
+// The record whose address T0 of buffer i is. Records mostly stand in the order of their buffers, so that record is tried first: then
+// a comparison tells it, and no division.
+fn find_named(g: Sheet, t0: u32, i: usize) -> Place
+    requires { ⌜ Lawful g ⌝ }
+    requires { ⌜ i < g .count ⌝ }
+    ensures { λ r. ⌜ r ≡ recordOf g t0 ⌝ }
+{
+    if g.record_address(i) == t0 {
+        return Place::At(i);
+    }
+    g.find_record(t0)
+}
+
+// The record that the chain is "again" at, else the index of none. It stays the same for all buffers of an image, so that one
+// comparison is left for each.
+fn again_index(ending: Ending) -> usize
+    ensures { λ r. ⌜ r ≡ againIndex ending ⌝ }
 {
     match ending {
-        Ending::End => false,
-        Ending::Broken => false,
-        Ending::Again(i) => i == j,
+        Ending::End => limits::MOST_BUFFERS,
+        Ending::Broken => limits::MOST_BUFFERS,
+        Ending::Again(i) => i,
     }
+}
+
+// Whether the chain is "again" at record j.
+fn again_at(ending: Ending, j: usize) -> bool
+    requires { ⌜ j < countMost ⌝ }
+    ensures { λ r. ⌜ r ≡ againAt ending j ⌝ }
+{
+    again_index(ending) == j
 }
 
 // The verdict on buffer i, by the marks and the chain's ending. Where one record alone names the buffer, T0 is its own record's
@@ -93,7 +118,7 @@ pub fn judge_buffer(
     }
     let chunk = heap::chunk(heap, g, i);
     let tag = chunk::read_tag(chunk);
-    let p = g.find_record(tag.t0);
+    let p = find_named(g, tag.t0, i);
     match p {
         Place::Nowhere => Verdict::BadTag,
         Place::At(j) => {

@@ -26,7 +26,7 @@ pub(crate) fn is_met(b: u8) -> bool
 pub(crate) fn names(b: u8) -> u8
     ensures { λ r. ⌜ r ≡ namesDigit b ⌝ }
 {
-    b / 2 % 3
+    b / 2 % 4
 }
 
 // The byte with one record more that names the buffer.

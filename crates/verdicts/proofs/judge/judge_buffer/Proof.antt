@@ -64,7 +64,7 @@ module _ (c : tie.After-p) where
   found : (index < start .args .g .count) × (tagAt (chunkAt (judging start) (start .args .i)) .t0 ≡ recordAddress (start .args .g) index)
   found =
       let g = start .args .g in
-      let f = place-found (g .«record_base») recordSize (g .count) _ index (sym (c .before .before .find-record .ensures) ∙ c .p .given .1) in
+      let f = place-found (g .«record_base») recordSize (g .count) _ index (sym (c .before .before .find-named .ensures) ∙ c .p .given .1) in
       (f .0, sym (ap (λ (t : Tag). t .t0) (tag-read (c .before .before .before))) ∙ f .1)
 
 returns : tie.Need-returns
@@ -101,8 +101,14 @@ returns-3 c =
     let g = s .args .g in
     sym
     (verdict-other (judging s) (s .args .i) (one-names (f .before))
-    (λ j l w e. place-missed (g .«record_base») recordSize (g .count) _ (omega arith) (sym (f .find-record .ensures) ∙ c .enum-told .given .1) j l
+    (λ j l w e. place-missed (g .«record_base») recordSize (g .count) _ (omega arith) (sym (f .find-named .ensures) ∙ c .enum-told .given .1) j l
     (ap (λ (t : Tag). t .t0) (tag-read (f .before)) ∙ e)))
+
+again-at-requires : tie.Need-again-at-requires
+again-at-requires c κs =
+    let p = c .before .before .before .before .before .before in
+    let law = start p .pre .0 .law in
+    omega (arith, found p .0, law .sizes .few)
 
 judge-chained-requires : tie.Need-judge-chained-requires
 judge-chained-requires c κs =
@@ -135,4 +141,4 @@ judge-buffer-spec =
     (λ c κs. search needs) returns (λ c κs. search needs) read-tag-requires (λ c κs. search needs) (λ c. search needs) (λ c. search needs) buffer-requires
     (λ c κs. search needs) returns-2
     (λ c. let p = c .before .before .before .before .before in let l = long (start p) in omega (arith, found p .0))
-    (λ c κs. search needs) (λ c κs. search needs) (λ c κs. search needs) judge-chained-requires returns-3 returns-4)
+    (λ c κs. search needs) again-at-requires (λ c κs. search needs) judge-chained-requires returns-3 returns-4)
