@@ -9,8 +9,8 @@ use Rattle.tags.specs.declared.refusal.Answer.{Answer}
 use Rattle.tags.specs.declared.refusal.Answer.the-variants as answer
 use Rattle.transactions.specs.declared.latest.Transaction.{Transaction}
 use Rattle.transactions.specs.declared.latest.Transaction.the-variants as transaction
-use Rattle.holding.specs.declared.show.Shown.{Shown}
-use Rattle.holding.specs.declared.show.Shown.the-variants as shown
+use Rattle.client.specs.declared.show.Shown.{Shown}
+use Rattle.client.specs.declared.show.Shown.the-variants as shown
 
 -- F1 (a value, and no refusal)
 abbrev pub acceptedWord : ℕ → ℕ

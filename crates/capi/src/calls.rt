@@ -4,19 +4,18 @@ ghost use Rattle.area.specs.Record.{stampOf};
 ghost use Rattle.sheet.specs.Areas.{before, after, result, answered};
 ghost use Rattle.layout.specs.Layout.{layOutOf};
 ghost use Rattle.allocation.specs.Allocate.{allocateOf};
-ghost use Rattle.holding.specs.Free.{freeOf};
-ghost use Rattle.holding.specs.Store.{storeOf};
+ghost use Rattle.free.specs.Free.{freeOf};
+ghost use Rattle.client.specs.Store.{storeOf};
 ghost use Rattle.sheet.specs.Fields.{sheetOf};
-ghost use Rattle.holding.specs.Show.{shownOf, StartsAt};
+ghost use Rattle.client.specs.Show.{shownOf, StartsAt};
 ghost use Rattle.capi.specs.Answer.{grantOf, answerWord, showWord};
 use crate::answer;
 use allocation::allocate;
 use area::record::Stamp;
 use chunks::chunk::Grant;
-use holding::free;
-use holding::show;
-use holding::show::Shown;
-use holding::store;
+use client::show;
+use client::show::Shown;
+use client::store;
 
 // What is asked for: where it is the whole buffer, the size is not read.
 fn grant(whole: bool, size: u32) -> Grant

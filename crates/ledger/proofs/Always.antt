@@ -16,8 +16,8 @@ use Rattle.area.specs.Record.{nextWord}
 use Rattle.area.specs.declared.record.Stamp.{Stamp}
 use Rattle.geometry.specs.Sheet.{bufferAddress, recordAddress, bufferOf}
 use Rattle.layout.specs.Layout.{laidAreas}
-use Rattle.holding.specs.Free.{sameGrant}
-use Rattle.holding.specs.Store.{storedAreas}
+use Rattle.free.specs.Free.{sameGrant}
+use Rattle.client.specs.Store.{storedAreas}
 use Rattle.geometry.specs.declared.sheet.Sheet.{Sheet}
 use Rattle.area.specs.declared.place.Place.{Place}
 use Rattle.area.specs.declared.place.Place.the-variants as place

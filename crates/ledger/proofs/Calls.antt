@@ -22,18 +22,18 @@ use Rattle.geometry.specs.Sheet.{headed, chunkPlace, bufferAddress, recordAddre
 use Rattle.places.specs.Spot.{spot}
 use Rattle.places.specs.declared.spot.Spot.{Spot}
 use Rattle.allocation.specs.Allocate.{takenChunk, takenHead, takenOf, allocatePlan, grantedAreas, allocateOf}
-use Rattle.holding.specs.Holding.{holding, heldAs, heldChunk, heldOf}
-use Rattle.holding.specs.Free.{sameGrant, freePlan, freedAreas, freeOf}
-use Rattle.holding.specs.Store.{storePlan, storedAreas, storeOf}
-use Rattle.holding.specs.Show.{shownOf}
+use Rattle.held.specs.Held.{holding, heldAs, heldChunk, heldOf}
+use Rattle.free.specs.Free.{sameGrant, freePlan, freedAreas, freeOf}
+use Rattle.client.specs.Store.{storePlan, storedAreas, storeOf}
+use Rattle.client.specs.Show.{shownOf}
 use Rattle.geometry.specs.declared.sheet.Sheet.{Sheet}
 use Rattle.area.specs.declared.place.Place.the-variants.{At, Nowhere}
 use Rattle.tags.specs.declared.refusal.Refusal.the-variants.{NoSuchBuffer, NoRoom, BadSize, NotAllocated, OtherGrant, PastClient}
 use Rattle.tags.specs.Refusal.{done}
 use Rattle.tags.specs.declared.refusal.Answer.the-variants as answer
-use Rattle.holding.specs.declared.holding.Holding.{Holding}
-use Rattle.holding.specs.declared.holding.Held.the-variants as held
-use Rattle.holding.specs.declared.show.Shown.the-variants as shown
+use Rattle.held.specs.declared.Holding.{Holding}
+use Rattle.held.specs.declared.Held.the-variants as held
+use Rattle.client.specs.declared.show.Shown.the-variants as shown
 use Rattle.area.proofs.Places.{place-at}
 use Rattle.verdicts.proofs.MetRecords.{occ-here}
 use Rattle.ledger.specs.Ledger.{Entry, asGranted}

@@ -20,9 +20,9 @@ use Rattle.area.specs.Place.{placeOf}
 use Rattle.layout.specs.Layout.{linkTo, laidAreas, layOutPlan, layOutOf}
 use Rattle.geometry.specs.Sheet.{laidSheet}
 use Rattle.allocation.specs.Allocate.{takenChunk, takenHead, takenOf, allocatePlan, grantedAreas, allocateOf}
-use Rattle.holding.specs.Holding.{heldChunk, heldOf}
-use Rattle.holding.specs.Free.{freePlan, freedAreas, freeOf}
-use Rattle.holding.specs.Store.{storePlan, storedAreas, storeOf}
+use Rattle.held.specs.Held.{heldChunk, heldOf}
+use Rattle.free.specs.Free.{freePlan, freedAreas, freeOf}
+use Rattle.client.specs.Store.{storePlan, storedAreas, storeOf}
 use Rattle.tags.specs.declared.refusal.Refusal.the-variants.{NoSuchBuffer, NoRoom, BadSize, OtherGrant}
 use Rattle.tags.specs.Refusal.{done}
 use Rattle.tags.specs.declared.refusal.Answer.the-variants as answer

@@ -27,8 +27,8 @@ use Rattle.verdicts.specs.Chain.{occ}
 use Rattle.verdicts.proofs.MetRecords.{occ-cons, occ-here, occ-apart}
 use Rattle.verdicts.proofs.Chains.{Linked, linked-same}
 use Rattle.allocation.specs.Allocate.{grantedAreas}
-use Rattle.holding.specs.Free.{freedAreas}
-use Rattle.holding.specs.Store.{storedAreas}
+use Rattle.free.specs.Free.{freedAreas}
+use Rattle.client.specs.Store.{storedAreas}
 use Rattle.ledger.specs.Ledger.{Entry, put, fresh, overwritten}
 use Rattle.ledger.proofs.Chunks.{chunkFor, LawfulEntry, fresh-chunk, fresh-lawful, store-chunk, store-lawful}
 use Rattle.ledger.proofs.Counts.{at-put, stray-put}

@@ -18,13 +18,13 @@ use Rattle.verdicts.specs.Chain.{Chain, occ, chainOf}
 use Rattle.verdicts.specs.Pairing.{ownOf}
 use Rattle.verdicts.specs.Judge.{verdictOf}
 use Rattle.allocation.specs.Allocate.{allocateOf}
-use Rattle.holding.specs.Show.{shownOf}
+use Rattle.client.specs.Show.{shownOf}
 use Rattle.geometry.specs.declared.sheet.Sheet.{Sheet}
 use Rattle.verdicts.specs.declared.pairing.Own.the-variants.{One}
 use Rattle.tags.specs.declared.refusal.Refusal.the-variants.{NoRoom}
 use Rattle.tags.specs.declared.refusal.Answer.{Answer}
 use Rattle.tags.specs.declared.refusal.Answer.the-variants as answer
-use Rattle.holding.specs.declared.show.Shown.the-variants as shown
+use Rattle.client.specs.declared.show.Shown.the-variants as shown
 use Rattle.verdicts.proofs.MetRecords.{occ-none}
 use Rattle.ledger.specs.Ledger.{Entry, RunState, imageAt, timesMet, isOut, Sound, Claim}
 use Rattle.ledger.proofs.Invariant.{Laid, outs, Invariant, opens}

@@ -32,10 +32,10 @@ use Rattle.verdicts.specs.Judge.{verdictOf}
 use Rattle.verdicts.specs.declared.pairing.Own.the-variants.{One}
 use Rattle.layout.specs.Layout.{layOutOf}
 use Rattle.allocation.specs.Allocate.{allocateOf}
-use Rattle.holding.specs.Free.{freeOf}
-use Rattle.holding.specs.Store.{storeOf}
-use Rattle.holding.specs.Show.{shownOf}
-use Rattle.holding.specs.declared.show.Shown.the-variants as shown
+use Rattle.free.specs.Free.{freeOf}
+use Rattle.client.specs.Store.{storeOf}
+use Rattle.client.specs.Show.{shownOf}
+use Rattle.client.specs.declared.show.Shown.the-variants as shown
 
 -- ---- the calls
 

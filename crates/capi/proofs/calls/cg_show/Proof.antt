@@ -2,7 +2,7 @@
 use mathlib.Core.Path.{sym, ap, _∙_}
 use native.Mathlib.Omega.{arith}
 use borrow.Author.Needs.{needs}
-use Rattle.holding.proofs.Holdings.{shown-known, shown-starts}
+use Rattle.client.proofs.Clients.{shown-known, shown-starts}
 use Rattle.capi.specs.Answer.{showWord}
 use Rattle.capi.proofs.calls.cg_show.Statement.{statement}
 use Rattle.capi.proofs.calls.cg_show.Tie as tie

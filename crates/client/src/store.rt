@@ -1,0 +1,71 @@
+// Store: a plan that only reads, and a commit that cannot fail.
+ghost use mathlib.Core.Path.{_≡_};
+ghost use lib.ListN.{length};
+ghost use Rattle.sheet.specs.Areas.{before, after, result, imageIn};
+ghost use Rattle.sheet.specs.Opening.{Open};
+ghost use Rattle.held.specs.Held.{heldOf};
+ghost use Rattle.client.specs.Store.{storeTest, storePlan, storeOf};
+use crate::bounds;
+use geometry::sheet::Sheet;
+use held::Held;
+use sheet::opening;
+use sheet::opening::Opened;
+use tags::refusal::Answer;
+use tags::refusal::Refusal;
+use words::run;
+
+// The buffer of an open image that a store of so many bytes at an offset writes to, or why it does not.
+fn fit(heap: &[u8], records: &[u8], g: Sheet, address: u32, offset: u32, len: usize) -> Held
+    requires { ⌜ Open (length (now heap)) (length (now records)) g ⌝ }
+    ensures { λ r. ⌜ r ≡ storeTest offset len (heldOf (imageIn g (heap .entry) (records .entry)) address) ⌝ }
+{
+    let held = held::hold(heap, records, g, address);
+    match held {
+        Held::Refused(why) => Held::Refused(why),
+        Held::Buffer(p) => {
+            let most = bounds::client_size(p);
+            let from = offset as usize;
+            if most < from {
+                return Held::Refused(Refusal::PastClient);
+            }
+            if most - from < len {
+                return Held::Refused(Refusal::PastClient);
+            }
+            Held::Buffer(p)
+        }
+    }
+}
+
+// The buffer that a store writes to, or why it does not. It only reads.
+fn plan(sheet: &[u8], heap: &[u8], records: &[u8], address: u32, offset: u32, len: usize) -> Held
+    ensures { λ r. ⌜ r ≡ storePlan (before sheet heap records) address offset len ⌝ }
+{
+    let opened = opening::open(sheet, heap.len(), records.len());
+    match opened {
+        Opened::Refused(why) => Held::Refused(why),
+        Opened::Sheet(g) => fit(heap, records, g, address, offset, len),
+    }
+}
+
+// Stores bytes at an offset in the buffer at an address, or refuses and leaves every byte as it was.
+pub fn store(
+    sheet: &[u8],
+    heap: &mut [u8],
+    records: &[u8],
+    address: u32,
+    offset: u32,
+    bytes: &[u8],
+) -> Answer
+    ensures { λ r. ⌜ result r (after sheet heap records)
+        ≡ storeOf (before sheet heap records) address offset (now (bytes .entry)) ⌝ }
+{
+    let planned = plan(sheet, heap, records, address, offset, bytes.len());
+    match planned {
+        Held::Refused(why) => Answer::Refused(why),
+        Held::Buffer(p) => {
+            let at = bounds::client_place(p);
+            run::write_run(heap, at + offset as usize, bytes);
+            Answer::Value(0)
+        }
+    }
+}

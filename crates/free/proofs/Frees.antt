@@ -1,0 +1,29 @@
+-- What is known of a buffer that is freed, by the equation of the plan alone. Assumes nothing.
+use mathlib.Core.Path.{_≡_}
+use Prim.Native.Nat.{ℕ}
+use native.Mathlib.Omega.{arith}
+use Rattle.words.proofs.Tests.{by-test}
+use Rattle.chunks.specs.declared.chunk.Grant.{Grant}
+use Rattle.sheet.specs.Areas.{Areas, imageOf, opening}
+use Rattle.sheet.proofs.Opens.{opened-known, by-opened}
+use Rattle.held.specs.Held.{heldOf}
+use Rattle.held.specs.declared.Holding.{Holding}
+use Rattle.held.specs.declared.Held.{Held}
+use Rattle.held.specs.declared.Held.the-variants.{Buffer, Refused}
+use Rattle.held.proofs.Holdings.{HeldAt, held-at}
+use Rattle.free.specs.Free.{sameGrant, freeTest, freePlan}
+
+-- a buffer that is freed is one that is held
+free-held : (q : Grant) (h : Held) (p : Holding) → freeTest q h ≡ Buffer p → h ≡ Buffer p
+free-held q (Buffer h) p e =
+    by-test (λ x. x ≡ Buffer p → Buffer h ≡ Buffer p) (sameGrant (h .grant) q) (λ t z. z)
+    (λ t z. absurd (let n : _≡_ {A = ℕ} 0 1 = cc in omega arith)) e
+free-held q (Refused why) p e = absurd (let z : _≡_ {A = ℕ} 0 1 = cc in omega arith)
+
+-- and what is written for it lies in the areas of the call
+pub free-known : (a : Areas) (address : ℕ) (q : Grant) (p : Holding) → freePlan a address q ≡ Buffer p → HeldAt a address p
+unfolding freePlan
+free-known a address q p =
+    by-opened (λ x. x ≡ Buffer p → HeldAt a address p) (opening a)
+    (λ g e z. held-at a g address p (opened-known _ _ _ g e) (free-held q (heldOf (imageOf a g) address) p z))
+    (λ why z. absurd (let n : _≡_ {A = ℕ} 0 1 = cc in omega arith))

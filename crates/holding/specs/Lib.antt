@@ -1,4 +1,0 @@
-pub mod Holding
-pub mod Free
-pub mod Store
-pub mod Show
