@@ -2,4 +2,3 @@ pub mod Places
 pub mod Records
 pub mod Placed
 pub mod Steps
-pub mod Logs

@@ -2,7 +2,6 @@
 use crate::findings;
 use crate::lines;
 use allocation::allocate;
-use area::log;
 use area::record;
 use area::record::Stamp;
 use chunks::chunk::Grant;

@@ -14,7 +14,7 @@ use Rattle.chunks.specs.Chunk.{chunkOf, freeChunk, grantedChunk, tagAt}
 use Rattle.chunks.specs.Judge.{freeVerdict, allocatedVerdict, zoneVerdict, sizedVerdict}
 use Rattle.tags.specs.Verdict.{verdictNumber, verdictValue}
 use Rattle.chunks.specs.declared.chunk.Grant.the-variants as grant
-use Rattle.area.specs.Log.{rowRecord, rowUptime}
+use Rattle.log.specs.Log.{rowRecord, rowUptime}
 use Rattle.area.specs.Record.{stampOf, recordBytes, stamped, recordWord}
 use Rattle.sheet.specs.Fields.{fieldIs, shaped, sheetOf, sheetBytes, withHead}
 use Rattle.geometry.specs.Limits.{sizesLawful, basesLawful, lawful}

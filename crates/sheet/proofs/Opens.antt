@@ -14,8 +14,8 @@ use Rattle.sheet.specs.Fields.{sheetLength, shaped, sheetOf}
 use Rattle.geometry.specs.Limits.{lawful}
 use Rattle.geometry.specs.Sheet.{heapLength, recordsLength}
 use Rattle.sheet.specs.Opening.{measured, numbered, openedOf, byOpened, openedWithLog}
-use Rattle.area.specs.Log.{logMost, logRight}
-use Rattle.area.proofs.Logs.{log-most}
+use Rattle.log.specs.Log.{logMost, logRight}
+use Rattle.log.proofs.Logs.{log-most}
 use Rattle.geometry.specs.declared.sheet.Sheet.{Sheet}
 use Rattle.sheet.specs.declared.opening.Lengths.the-variants as lengths
 use Rattle.sheet.specs.declared.opening.Opened.{Opened}

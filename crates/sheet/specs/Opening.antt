@@ -4,7 +4,7 @@ use mathlib.Core.Bool.{Bool, _&&_, cond}
 use mathlib.Core.List.{List}
 use Prim.Native.Nat.{ℕ}
 use lib.Dec.{eqb}
-use Rattle.area.specs.Log.{logRight}
+use Rattle.log.specs.Log.{logRight}
 use Rattle.tags.specs.declared.refusal.Refusal.{Refusal}
 use Rattle.tags.specs.declared.refusal.Refusal.the-variants.{BadSheet, BadNumber, BadLength}
 use Rattle.geometry.specs.Sheet.{heapLength, recordsLength}

@@ -3,7 +3,6 @@ ghost use mathlib.Core.Path.{_≡_};
 ghost use Rattle.geometry.specs.Limits.{Lawful};
 ghost use Rattle.sheet.specs.Opening.{measured, numbered, openedOf, openedWithLog, areasOf, lengthsOf};
 use crate::fields;
-use area::log;
 use geometry::limits;
 use geometry::sheet::Sheet;
 use tags::refusal::Refusal;

@@ -7,7 +7,7 @@ use lib.Dec.{eqb, ltb}
 use lib.ListN.{length}
 use Rattle.words.proofs.Tests.{by-test}
 use Rattle.area.specs.Record.{recordSize, stampHigh, stampLow}
-use Rattle.area.specs.Log.{rowSize, rowsOf, logMost}
+use Rattle.log.specs.Log.{rowSize, rowsOf, logMost}
 use Rattle.area.specs.declared.place.Place.{Place}
 use Rattle.area.specs.declared.place.Place.the-variants as place
 use Rattle.tags.specs.declared.refusal.Refusal.the-variants.{Damage}

@@ -3,12 +3,11 @@
 ghost use mathlib.Core.Path.{_≡_};
 ghost use Prim.Native.Nat.{_+_, _*_, _≤_, _<_};
 ghost use lib.ListN.{length};
-ghost use Rattle.area.specs.Log.{rowSize, logMost};
+ghost use Rattle.log.specs.Log.{rowSize, logMost};
 ghost use Rattle.geometry.specs.Sheet.{recordsLength};
 ghost use Rattle.geometry.specs.Limits.{Lawful};
 ghost use Rattle.sheet.specs.Areas.{before};
 ghost use Rattle.transactions.specs.Latest.{considered, latestRow, firstBest, ownedLatest, indexedLatest, latestOf, latestPart, LatestPlace};
-use area::log;
 use area::place::Place;
 use area::record;
 use geometry::sheet::Sheet;

@@ -5,7 +5,7 @@ use native.Mathlib.Omega.{arith}
 use borrow.Author.Needs.{needs}
 use Rattle.transactions.proofs.Transactions.{latest-none, latest-more}
 use Rattle.transactions.specs.Latest.{latestRow, firstBest}
-use Rattle.area.specs.Log.{rowSize}
+use Rattle.log.specs.Log.{rowSize}
 use Rattle.words.proofs.Parts.{below}
 use Rattle.transactions.proofs.latest.latest_row.Statement.{statement}
 use Rattle.transactions.proofs.latest.latest_row.Tie as tie

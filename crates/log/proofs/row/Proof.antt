@@ -3,9 +3,9 @@ use mathlib.Core.Path.{refl}
 use native.Mathlib.Omega.{arith}
 use borrow.Author.Needs.{needs}
 use Rattle.words.proofs.Parts.{part-lent}
-use Rattle.area.specs.Log.{rowSize}
-use Rattle.area.proofs.log.row.Statement.{statement}
-use Rattle.area.proofs.log.row.Tie as tie
+use Rattle.log.specs.Log.{rowSize}
+use Rattle.log.proofs.row.Statement.{statement}
+use Rattle.log.proofs.row.Tie as tie
 
 pub row-spec : {M : Type 1} → statement M
 row-spec =

@@ -1,9 +1,9 @@
 -- The rows are tested and then the length. Assumes nothing.
 use borrow.Author.Tests.{eq-eqb, ne-eqb}
 use borrow.Author.Needs.{needs}
-use Rattle.area.specs.Log.{logRight}
-use Rattle.area.proofs.log.is_log.Statement.{statement}
-use Rattle.area.proofs.log.is_log.Tie as tie
+use Rattle.log.specs.Log.{logRight}
+use Rattle.log.proofs.is_log.Statement.{statement}
+use Rattle.log.proofs.is_log.Tie as tie
 
 pub is-log-spec : {M : Type 1} → statement M
 unfolding logRight

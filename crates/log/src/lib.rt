@@ -1,11 +1,14 @@
 // The format of the log: rows of four words, the record's address at 0, the uptime at 4, the thread at 8 and the kind at 12. No rule
 // reads the last two.
+//
+// The layer promises: a log can have so many bytes, and has so many rows of them, or it cannot; row k, and each word of it that a
+// rule reads, is the one at its place.
 ghost use mathlib.Core.Path.{_≡_};
 ghost use Prim.Native.Nat.{_+_, _*_, _≤_};
 ghost use lib.ListN.{length};
 ghost use Rattle.words.specs.Word.{part};
 ghost use Rattle.area.specs.Place.{PartAt};
-ghost use Rattle.area.specs.Log.{rowSize, rowsOf, logRight, rowRecord, rowUptime};
+ghost use Rattle.log.specs.Log.{rowSize, rowsOf, logRight, rowRecord, rowUptime};
 use words::word;
 
 pub const ROW: usize = 16;

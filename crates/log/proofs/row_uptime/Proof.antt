@@ -1,8 +1,8 @@
 -- The word is read at its offset in the row. Assumes nothing.
 use borrow.Author.Needs.{needs}
-use Rattle.area.specs.Log.{rowUptime}
-use Rattle.area.proofs.log.row_uptime.Statement.{statement}
-use Rattle.area.proofs.log.row_uptime.Tie as tie
+use Rattle.log.specs.Log.{rowUptime}
+use Rattle.log.proofs.row_uptime.Statement.{statement}
+use Rattle.log.proofs.row_uptime.Tie as tie
 
 pub row-uptime-spec : {M : Type 1} → statement M
 unfolding rowUptime

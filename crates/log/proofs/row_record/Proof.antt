@@ -1,8 +1,8 @@
 -- The word is read at its offset in the row. Assumes nothing.
 use borrow.Author.Needs.{needs}
-use Rattle.area.specs.Log.{rowRecord}
-use Rattle.area.proofs.log.row_record.Statement.{statement}
-use Rattle.area.proofs.log.row_record.Tie as tie
+use Rattle.log.specs.Log.{rowRecord}
+use Rattle.log.proofs.row_record.Statement.{statement}
+use Rattle.log.proofs.row_record.Tie as tie
 
 pub row-record-spec : {M : Type 1} → statement M
 unfolding rowRecord

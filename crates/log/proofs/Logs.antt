@@ -4,7 +4,7 @@ use mathlib.Core.Bool.{true, and-eq-true-iff}
 use Prim.Native.Nat.{ℕ, _%_, _≤_}
 use borrow.Author.Tests.{leb-true}
 use lib.Dec.{eqb, leb}
-use Rattle.area.specs.Log.{rowSize, logMost, logRight}
+use Rattle.log.specs.Log.{rowSize, logMost, logRight}
 
 -- a log is not long
 pub log-most : (l : ℕ) → logRight l ≡ true → l ≤ logMost
