@@ -15,8 +15,8 @@ use Rattle.sheet.specs.Areas.{Areas}
 use Rattle.geometry.specs.declared.sheet.Sheet.{Sheet}
 use Rattle.sheet.specs.declared.opening.Opened.the-variants as opened
 use Rattle.sheet.proofs.Opens.{opened-known}
-use Rattle.verdicts.specs.Chain.{chainIn}
-use Rattle.verdicts.specs.Marks.{marksIn}
+use Rattle.chain.specs.Chain.{chainIn}
+use Rattle.chain.specs.Marks.{marksIn}
 use Rattle.image.specs.Inspect.{filled, inspectOf, Begins}
 use Rattle.image.specs.declared.inspect.Finding.{Finding}
 use Rattle.image.specs.declared.inspect.Begun.the-variants as begun

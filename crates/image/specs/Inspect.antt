@@ -12,8 +12,8 @@ use Rattle.tags.specs.declared.verdict.Verdict.the-variants.{NotOneRecord}
 use Rattle.sheet.specs.Opening.{Open}
 use Rattle.sheet.specs.Areas.{Areas, Image, image, opening, byImage}
 use Rattle.geometry.specs.declared.sheet.Sheet.{Sheet}
-use Rattle.verdicts.specs.Chain.{chainIn}
-use Rattle.verdicts.specs.Marks.{marksIn}
+use Rattle.chain.specs.Chain.{chainIn}
+use Rattle.chain.specs.Marks.{marksIn}
 use Rattle.verdicts.specs.Judge.{verdictOf}
 use Rattle.image.specs.declared.inspect.Finding.{Finding}
 use Rattle.image.specs.declared.inspect.Begun.{Begun}

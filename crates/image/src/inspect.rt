@@ -7,10 +7,11 @@ ghost use Rattle.tags.specs.Filling.{filling};
 ghost use Rattle.geometry.specs.Sheet.{recordsLength};
 ghost use Rattle.geometry.specs.Limits.{Lawful, countMost};
 ghost use Rattle.sheet.specs.Areas.{before, imageIn};
-ghost use Rattle.verdicts.specs.Chain.{chainIn};
-ghost use Rattle.verdicts.specs.Marks.{marksIn};
+ghost use Rattle.chain.specs.Chain.{chainIn};
+ghost use Rattle.chain.specs.Marks.{marksIn};
 ghost use Rattle.verdicts.specs.Judge.{verdictOf};
 ghost use Rattle.image.specs.Inspect.{inspectOf, countOf, answerOf, foundBy, JudgesImage, Judges, Begins};
+use chain::marks;
 use geometry::limits;
 use geometry::sheet::Sheet;
 use sheet::opening;
@@ -20,7 +21,6 @@ use tags::refusal::Answer;
 use tags::refusal::Refusal;
 use tags::verdict::Verdict;
 use verdicts::judge;
-use verdicts::marks;
 
 // A mark for each buffer that an image can have.
 type Marks = [u8; limits::MOST_BUFFERS];

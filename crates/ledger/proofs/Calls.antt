@@ -35,7 +35,7 @@ use Rattle.held.specs.declared.Holding.{Holding}
 use Rattle.held.specs.declared.Held.the-variants as held
 use Rattle.client.specs.declared.show.Shown.the-variants as shown
 use Rattle.area.proofs.Places.{place-at}
-use Rattle.verdicts.proofs.MetRecords.{occ-here}
+use Rattle.chain.proofs.MetRecords.{occ-here}
 use Rattle.ledger.specs.Ledger.{Entry, asGranted}
 use Rattle.ledger.proofs.Chunks.{chunkFor, LawfulEntry, granted-verdict, free-sound, client-part}
 use Rattle.ledger.proofs.Invariant.{Laid, outs, Invariant, record-fits, records-some, chunk-some, first-below, first-address, none-linked, opens}

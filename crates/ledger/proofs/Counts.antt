@@ -8,10 +8,10 @@ use native.Mathlib.Decide.{ℕ-discrete}
 use native.Mathlib.Omega.{arith}
 use borrow.Author.Tests.{eq-eqb, ne-eqb}
 use Rattle.area.specs.Place.{placeAddress, placeOf}
-use Rattle.verdicts.specs.Chain.{occ}
+use Rattle.chain.specs.Chain.{occ}
 use Rattle.area.specs.declared.place.Place.the-variants.{Nowhere}
 use Rattle.area.proofs.Places.{address-one, place-missed}
-use Rattle.verdicts.proofs.MetRecords.{occ-none, occ-here, occ-apart}
+use Rattle.chain.proofs.MetRecords.{occ-none, occ-here, occ-apart}
 use Rattle.ledger.specs.Ledger.{Entry, put}
 
 -- ---- the numbers from one on

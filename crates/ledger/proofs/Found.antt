@@ -22,14 +22,14 @@ use Rattle.tags.proofs.Tags.{statePattern, tag-pattern}
 use Rattle.sheet.specs.Areas.{Areas, Image, imageOf}
 use Rattle.geometry.specs.Sheet.{headed, bufferAddress, recordAddress}
 use Rattle.area.specs.Record.{addressWord}
-use Rattle.verdicts.specs.Chain.{occ, chainOf}
-use Rattle.verdicts.specs.Pairing.{namers, theOne, ownIn, ownOf}
+use Rattle.chain.specs.Chain.{occ, chainOf}
+use Rattle.chain.specs.Pairing.{namers, theOne, ownIn, ownOf}
 use Rattle.verdicts.specs.Judge.{standing, chainedVerdict, ownedVerdict, verdictOf}
 use Rattle.geometry.specs.declared.sheet.Sheet.{Sheet}
 use Rattle.tags.specs.declared.ending.Ending.the-variants.{End}
-use Rattle.verdicts.specs.declared.pairing.Own.the-variants.{One}
+use Rattle.chain.specs.declared.pairing.Own.the-variants.{One}
 use Rattle.area.proofs.Places.{address-one}
-use Rattle.verdicts.proofs.Chains.{linked-chain}
+use Rattle.chain.proofs.Chains.{linked-chain}
 use Rattle.ledger.specs.Ledger.{Entry, asGranted, asEntered, allocatedOne, foundAllocated}
 use Rattle.ledger.proofs.Chunks.{chunkFor, stateFor, LawfulEntry, tag-for, granted-verdict, free-sound}
 use Rattle.ledger.proofs.Invariant.{Laid, outs, Invariant, record-fits, records-some, chunk-some, once}

@@ -13,13 +13,13 @@ use Rattle.sheet.specs.Areas.{Areas, opening, chunkIn}
 use Rattle.geometry.specs.Sheet.{headed, heapLength, recordsLength, bufferAddress, recordAddress, bufferOf}
 use Rattle.geometry.specs.Limits.{lawful, Lawful}
 use Rattle.area.specs.Record.{addressWord, nextWord}
-use Rattle.verdicts.specs.Chain.{occ}
+use Rattle.chain.specs.Chain.{occ}
 use Rattle.sheet.specs.Fields.{sheetBytes}
 use Rattle.geometry.specs.declared.sheet.Sheet.{Sheet}
 use Rattle.sheet.specs.declared.opening.Opened.the-variants as opened
 use Rattle.area.specs.declared.place.Place.the-variants.{Nowhere}
 use Rattle.geometry.proofs.Sheets.{record-word}
-use Rattle.verdicts.proofs.Chains.{Linked}
+use Rattle.chain.proofs.Chains.{Linked}
 use Rattle.ledger.specs.Ledger.{Entry}
 use Rattle.ledger.proofs.Chunks.{chunkFor, LawfulEntry}
 use Rattle.sheet.proofs.Bytes.{Fits, sheet-opens}

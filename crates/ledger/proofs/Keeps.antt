@@ -23,9 +23,9 @@ use Rattle.geometry.specs.Sheet.{headed, heapLength, bufferAddress, recordAddre
 use Rattle.geometry.specs.declared.sheet.Sheet.{Sheet}
 use Rattle.sheet.proofs.Bytes.{sheet-head}
 use Rattle.geometry.proofs.Sheets.{chunk-inside, record-inside}
-use Rattle.verdicts.specs.Chain.{occ}
-use Rattle.verdicts.proofs.MetRecords.{occ-cons, occ-here, occ-apart}
-use Rattle.verdicts.proofs.Chains.{Linked, linked-same}
+use Rattle.chain.specs.Chain.{occ}
+use Rattle.chain.proofs.MetRecords.{occ-cons, occ-here, occ-apart}
+use Rattle.chain.proofs.Chains.{Linked, linked-same}
 use Rattle.allocation.specs.Allocate.{grantedAreas}
 use Rattle.free.specs.Free.{freedAreas}
 use Rattle.client.specs.Store.{storedAreas}

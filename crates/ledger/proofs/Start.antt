@@ -25,7 +25,7 @@ use Rattle.sheet.specs.declared.opening.Opened.the-variants as opened
 use Rattle.geometry.proofs.Sheets.{lawful-known, buffer-word}
 use Rattle.layout.specs.Layout.{laidChunk, linkTo, laidRecord, laidAreas, layOutPlan, layOutOf}
 use Rattle.layout.proofs.Layouts.{laid-chunk-long, laid-record-long, link-in, link-out}
-use Rattle.verdicts.proofs.Chains.{Linked}
+use Rattle.chain.proofs.Chains.{Linked}
 use Rattle.ledger.proofs.Counts.{range, occ-within, occ-above}
 use Rattle.ledger.proofs.Invariant.{Laid, Invariant, record-fits, chunk-some}
 

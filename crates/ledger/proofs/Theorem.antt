@@ -14,18 +14,18 @@ use Rattle.chunks.specs.declared.chunk.Grant.{Grant}
 use Rattle.area.specs.declared.record.Stamp.{Stamp}
 use Rattle.sheet.specs.Areas.{Areas, Result}
 use Rattle.geometry.specs.Sheet.{laidSheet, headed, bufferAddress}
-use Rattle.verdicts.specs.Chain.{Chain, occ, chainOf}
-use Rattle.verdicts.specs.Pairing.{ownOf}
+use Rattle.chain.specs.Chain.{Chain, occ, chainOf}
+use Rattle.chain.specs.Pairing.{ownOf}
 use Rattle.verdicts.specs.Judge.{verdictOf}
 use Rattle.allocation.specs.Allocate.{allocateOf}
 use Rattle.client.specs.Show.{shownOf}
 use Rattle.geometry.specs.declared.sheet.Sheet.{Sheet}
-use Rattle.verdicts.specs.declared.pairing.Own.the-variants.{One}
+use Rattle.chain.specs.declared.pairing.Own.the-variants.{One}
 use Rattle.tags.specs.declared.refusal.Refusal.the-variants.{NoRoom}
 use Rattle.tags.specs.declared.refusal.Answer.{Answer}
 use Rattle.tags.specs.declared.refusal.Answer.the-variants as answer
 use Rattle.client.specs.declared.show.Shown.the-variants as shown
-use Rattle.verdicts.proofs.MetRecords.{occ-none}
+use Rattle.chain.proofs.MetRecords.{occ-none}
 use Rattle.ledger.specs.Ledger.{Entry, RunState, imageAt, timesMet, isOut, Sound, Claim}
 use Rattle.ledger.proofs.Invariant.{Laid, outs, Invariant, opens}
 use Rattle.ledger.proofs.Found.{entered-sound, image, own-is, chain-is, verdict-is, found-count}

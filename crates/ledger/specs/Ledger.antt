@@ -26,10 +26,10 @@ use Rattle.sheet.specs.Areas.{Areas, Result, Image, imageOf, opening}
 use Rattle.geometry.specs.Sheet.{laidSheet, headed, bufferAddress}
 use Rattle.geometry.specs.declared.sheet.Sheet.{Sheet}
 use Rattle.sheet.specs.declared.opening.Opened.the-variants as opened
-use Rattle.verdicts.specs.Chain.{occ, chainOf}
-use Rattle.verdicts.specs.Pairing.{ownOf}
+use Rattle.chain.specs.Chain.{occ, chainOf}
+use Rattle.chain.specs.Pairing.{ownOf}
 use Rattle.verdicts.specs.Judge.{verdictOf}
-use Rattle.verdicts.specs.declared.pairing.Own.the-variants.{One}
+use Rattle.chain.specs.declared.pairing.Own.the-variants.{One}
 use Rattle.layout.specs.Layout.{layOutOf}
 use Rattle.allocation.specs.Allocate.{allocateOf}
 use Rattle.free.specs.Free.{freeOf}

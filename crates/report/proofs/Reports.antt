@@ -11,9 +11,9 @@ use Rattle.tags.specs.declared.refusal.Answer.the-variants.{Value, Refused}
 use Rattle.geometry.specs.Limits.{SizesOf}
 use Rattle.sheet.specs.Areas.{Areas, Image, imageOf, openingWithLog}
 use Rattle.sheet.proofs.Opens.{logged-known, by-opened}
-use Rattle.verdicts.specs.Chain.{chainOf}
+use Rattle.chain.specs.Chain.{chainOf}
 use Rattle.verdicts.specs.Judge.{verdictOf}
-use Rattle.verdicts.proofs.Chains.{chain-short, ending-below}
+use Rattle.chain.proofs.Chains.{chain-short, ending-below}
 use Rattle.lines.specs.Text.{headerOf, linesOf, chainLineOf, faultsIn, faultsOf, longest, writing}
 use Rattle.lines.specs.declared.text.Written.{Written}
 use Rattle.lines.specs.declared.text.Written.the-variants as written

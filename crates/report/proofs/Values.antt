@@ -25,11 +25,11 @@ use Rattle.chunks.specs.Chunk.{bufferSize, freeFill, redzone, guard, tagAt}
 use Rattle.chunks.specs.Judge.{byDifference, byDecoded, r1Of, freeVerdict, zoneVerdict, zoneAfter, sizedVerdict, allocatedVerdict}
 use Rattle.geometry.specs.Sheet.{chunkPlace, recordAddress}
 use Rattle.sheet.specs.Areas.{Image, chunkAt}
-use Rattle.verdicts.specs.Chain.{chainOf}
-use Rattle.verdicts.specs.Pairing.{ownOf, byOwn}
+use Rattle.chain.specs.Chain.{chainOf}
+use Rattle.chain.specs.Pairing.{ownOf, byOwn}
 use Rattle.verdicts.specs.Judge.{isNeither, isFree, isAllocated, chainedVerdict, ownedVerdict, standingOf, verdictOf}
-use Rattle.verdicts.specs.declared.pairing.Own.{Own}
-use Rattle.verdicts.specs.declared.pairing.Own.the-variants.{One, NotOne}
+use Rattle.chain.specs.declared.pairing.Own.{Own}
+use Rattle.chain.specs.declared.pairing.Own.the-variants.{One, NotOne}
 use Rattle.verdicts.specs.declared.judge.Standing.{Standing}
 
 part-most : (l : List ℕ) (at len : ℕ) → length (part l at len) ≤ len

@@ -8,7 +8,7 @@ use Rattle.tags.specs.declared.refusal.Refusal.the-variants.{ShortOutput}
 use Rattle.tags.specs.declared.refusal.Answer.{Answer}
 use Rattle.tags.specs.declared.refusal.Answer.the-variants.{Value, Refused}
 use Rattle.sheet.specs.Areas.{Areas, Image, openingWithLog, byImage}
-use Rattle.verdicts.specs.Chain.{chainOf}
+use Rattle.chain.specs.Chain.{chainOf}
 use Rattle.verdicts.specs.Judge.{verdictOf}
 use Rattle.lines.specs.Text.{textOf, writing}
 use Rattle.lines.specs.declared.text.Written.{Written}

@@ -6,6 +6,7 @@ ghost use Rattle.sheet.specs.Opening.{Open};
 ghost use Rattle.sheet.specs.Areas.{before, imageIn};
 ghost use Rattle.report.specs.Answer.{reportText, reporting, reportOf};
 use crate::whole;
+use chain::marks;
 use geometry::limits;
 use geometry::sheet::Sheet;
 use lines::text::Written;
@@ -13,7 +14,6 @@ use sheet::opening;
 use sheet::opening::Opened;
 use tags::refusal::Answer;
 use tags::refusal::Refusal;
-use verdicts::marks;
 
 // Writes the report of an image that is open, with a byte for each record to mark those that the chain meets.
 fn report_marked(

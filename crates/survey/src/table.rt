@@ -6,17 +6,17 @@ ghost use lib.Seq.{sets};
 ghost use Rattle.tags.specs.Filling.{filling};
 ghost use Rattle.sheet.specs.Areas.{before, imageIn};
 ghost use Rattle.sheet.specs.Opening.{Open};
-ghost use Rattle.verdicts.specs.Chain.{chainIn};
+ghost use Rattle.chain.specs.Chain.{chainIn};
 ghost use Rattle.survey.specs.Table.{tableOf, tabulateOf};
+use chain::marks;
+use chain::walk::Walked;
 use geometry::limits;
 use geometry::sheet::Sheet;
 use sheet::opening;
 use sheet::opening::Opened;
 use tags::refusal::Answer;
 use tags::refusal::Refusal;
-use verdicts::chain::Walked;
 use verdicts::judge;
-use verdicts::marks;
 
 // Marks an open image, judges every buffer and writes its numbers, and answers what the chain met and how it ends.
 fn fill_marked(heap: &[u8], records: &[u8], g: Sheet, marks: &mut [u8], rows: &mut [u32]) -> Walked

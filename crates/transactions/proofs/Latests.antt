@@ -18,10 +18,10 @@ use Rattle.sheet.specs.Opening.{Open}
 use Rattle.geometry.specs.declared.sheet.Sheet.{Sheet}
 use Rattle.sheet.proofs.Opens.{logged-known, by-opened}
 use Rattle.geometry.proofs.Sheets.{record-inside}
-use Rattle.verdicts.specs.Pairing.{ownIn, byOwn}
-use Rattle.verdicts.specs.declared.pairing.Own.{Own}
-use Rattle.verdicts.specs.declared.pairing.Own.the-variants.{One, NotOne}
-use Rattle.verdicts.proofs.Owns.{own-below}
+use Rattle.chain.specs.Pairing.{ownIn, byOwn}
+use Rattle.chain.specs.declared.pairing.Own.{Own}
+use Rattle.chain.specs.declared.pairing.Own.the-variants.{One, NotOne}
+use Rattle.chain.proofs.Owns.{own-below}
 use Rattle.transactions.specs.Latest.{latestRow, firstBest, rowOrRecord, ownedLatest, indexedLatest, latestOf}
 use Rattle.transactions.specs.declared.latest.Transaction.{Transaction}
 use Rattle.transactions.specs.declared.latest.Transaction.the-variants.{Row, Record, Refused}

@@ -11,7 +11,7 @@ use Rattle.words.specs.Age.{ageOf}
 use Rattle.tags.specs.declared.verdict.Verdict.the-variants.{NotOneRecord}
 use Rattle.area.specs.Record.{recordSize, stampHigh, stampLow}
 use Rattle.log.specs.Log.{rowSize, rowsOf, rowRecord, rowUptime}
-use Rattle.verdicts.specs.Pairing.{ownIn, byOwn}
+use Rattle.chain.specs.Pairing.{ownIn, byOwn}
 use Rattle.sheet.specs.Areas.{Areas, PartAt, openingWithLog, byImage}
 use Rattle.geometry.specs.Sheet.{recordAddress}
 use Rattle.geometry.specs.declared.sheet.Sheet.{Sheet}

@@ -10,14 +10,14 @@ ghost use Rattle.sheet.specs.Areas.{before};
 ghost use Rattle.transactions.specs.Latest.{considered, latestRow, firstBest, ownedLatest, indexedLatest, latestOf, latestPart, LatestPlace};
 use area::place::Place;
 use area::record;
+use chain::pairing;
+use chain::pairing::Own;
 use geometry::sheet::Sheet;
 use places::records;
 use sheet::opening;
 use sheet::opening::Opened;
 use tags::refusal::Refusal;
 use tags::verdict::Verdict;
-use verdicts::pairing;
-use verdicts::pairing::Own;
 use words::age;
 
 // What is latest so far: a row, or no row and so the record; and its age.

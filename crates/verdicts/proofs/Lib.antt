@@ -1,6 +1,2 @@
-pub mod MetRecords
-pub mod Chains
-pub mod Lends
-pub mod Counts
-pub mod Owns
+pub mod Tagged
 pub mod Rows

@@ -15,8 +15,8 @@ use Rattle.tags.specs.declared.verdict.Verdict.the-variants.{NotOneRecord, BadT
 use Rattle.geometry.specs.Sheet.{recordAddress}
 use Rattle.geometry.specs.Limits.{countMost}
 use Rattle.sheet.specs.Areas.{Image, chunkAt}
-use Rattle.verdicts.specs.Chain.{Chain, chainOf, metBy}
-use Rattle.verdicts.specs.Pairing.{ownOf, byOwn}
+use Rattle.chain.specs.Chain.{Chain, chainOf, metBy}
+use Rattle.chain.specs.Pairing.{ownOf, byOwn}
 use Rattle.tags.specs.declared.ending.Ending.{Ending}
 use Rattle.tags.specs.declared.ending.Ending.the-variants.{End, Broken, Again}
 use Rattle.verdicts.specs.declared.judge.Standing.{Standing}

@@ -1,5 +1,1 @@
-pub mod Chain
-pub mod Walk
-pub mod Pairing
-pub mod Marks
 pub mod Judge

@@ -8,11 +8,11 @@ ghost use Rattle.geometry.specs.Sheet.{recordOf};
 ghost use Rattle.geometry.specs.Limits.{Lawful, countMost};
 ghost use Rattle.sheet.specs.Opening.{Open};
 ghost use Rattle.sheet.specs.Areas.{imageIn};
-ghost use Rattle.verdicts.specs.Chain.{chainIn};
-ghost use Rattle.verdicts.specs.Marks.{marksIn};
+ghost use Rattle.chain.specs.Chain.{chainIn};
+ghost use Rattle.chain.specs.Marks.{marksIn};
 ghost use Rattle.verdicts.specs.Judge.{chainedVerdict, againAt, againIndex, verdictOf, toldOf, rowOf, rowsOf};
-use crate::marks;
 use area::place::Place;
+use chain::marks;
 use chunks::chunk;
 use chunks::judge;
 use geometry::limits;
@@ -113,7 +113,7 @@ pub fn judge_buffer(
     requires { ⌜ ending ≡ chainIn g (now records) .ending ⌝ }
     ensures { λ r. ⌜ r ≡ verdictOf (imageIn g (heap .entry) (records .entry)) i ⌝ }
 {
-    if marks::names(marks[i]) != 1 {
+    if marks::read(marks[i]).names != 1 {
         return Verdict::NotOneRecord;
     }
     let chunk = heap::chunk(heap, g, i);
@@ -126,7 +126,7 @@ pub fn judge_buffer(
                 return Verdict::BadTag;
             }
             let s = Standing {
-                met: marks::is_met(marks[j]),
+                met: marks::read(marks[j]).met,
                 again: again_at(ending, j),
             };
             judge_chained(chunk, tag.pattern(), s)

@@ -2,7 +2,7 @@
 use mathlib.Core.Path.{_≡_, sym}
 use borrow.Author.Needs.{needs}
 use lib.ListN.{length, take}
-use Rattle.verdicts.proofs.Counts.{length-marks}
+use Rattle.chain.proofs.Counts.{length-marks}
 use Rattle.image.proofs.inspect.judge_first.Statement.{statement}
 use Rattle.image.proofs.inspect.judge_first.Tie as tie
 

@@ -3,7 +3,7 @@ use mathlib.Core.Path.{sym, _∙_}
 use borrow.Author.Needs.{needs}
 use lib.Seq.{length-take-le, take-at}
 use lib.ListN.{drop}
-use Rattle.verdicts.proofs.Counts.{length-marks}
+use Rattle.chain.proofs.Counts.{length-marks}
 use Rattle.image.proofs.inspect.mark_first.Statement.{statement}
 use Rattle.image.proofs.inspect.mark_first.Tie as tie
 

@@ -15,7 +15,7 @@ use Rattle.lines.specs.Text.{lineOf, linesOf, faultOf, faultsIn, Wrote, mostBuf
 use Rattle.lines.proofs.Texts.{then, wrote-none, verdict-small}
 use Rattle.report.specs.Answer.{numberOf, valueOf, reportText}
 use Rattle.verdicts.specs.Judge.{verdictOf}
-use Rattle.verdicts.proofs.Chains.{chain-short, ending-below}
+use Rattle.chain.proofs.Chains.{chain-short, ending-below}
 use Rattle.report.proofs.Reports.{report-is}
 use Rattle.report.proofs.whole.put_report.Statement.{statement}
 use Rattle.report.proofs.whole.put_report.Tie as tie

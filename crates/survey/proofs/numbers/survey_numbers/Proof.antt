@@ -9,7 +9,7 @@ use Rattle.tags.specs.Ending.{endingValue}
 use Rattle.tags.specs.declared.ending.Ending.{Ending}
 use Rattle.sheet.specs.Opening.{Open}
 use Rattle.sheet.proofs.Opens.{logged-known}
-use Rattle.verdicts.proofs.Chains.{chain-short, ending-below}
+use Rattle.chain.proofs.Chains.{chain-short, ending-below}
 use Rattle.survey.specs.Numbers.{surveyNumbersOf}
 use Rattle.survey.proofs.numbers.survey_numbers.Statement.{statement}
 use Rattle.survey.proofs.numbers.survey_numbers.Tie as tie

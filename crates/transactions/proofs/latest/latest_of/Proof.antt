@@ -3,7 +3,7 @@ use mathlib.Core.Path.{sym, _∙_}
 use borrow.Author.Tests.{lt-ltb, le-ltb}
 use borrow.Author.Needs.{needs}
 use Rattle.transactions.specs.Latest.{indexedLatest}
-use Rattle.verdicts.proofs.Owns.{own-below}
+use Rattle.chain.proofs.Owns.{own-below}
 use Rattle.transactions.proofs.latest.latest_of.Statement.{statement}
 use Rattle.transactions.proofs.latest.latest_of.Tie as tie
 

@@ -14,10 +14,11 @@ use Rattle.tags.specs.declared.ending.Ending.{Ending}
 use Rattle.geometry.specs.Sheet.{chunkPlace, recordAddress}
 use Rattle.sheet.specs.Areas.{Image, image, chunkAt}
 use Rattle.geometry.proofs.Sheets.{chunk-inside, chunk-length}
-use Rattle.verdicts.specs.Marks.{namesDigit, namesAfter}
+use Rattle.chain.specs.Marks.{namesDigit, namesAfter}
+use Rattle.chain.specs.declared.marks.Digits.{Digits}
 use Rattle.verdicts.specs.Judge.{chainedVerdict, standing, againAt}
-use Rattle.verdicts.proofs.Counts.{length-marks, marks-names, marks-met}
-use Rattle.verdicts.proofs.Owns.{verdict-none, verdict-other, verdict-one}
+use Rattle.chain.proofs.Counts.{length-marks, marks-names, marks-met}
+use Rattle.verdicts.proofs.Tagged.{verdict-none, verdict-other, verdict-one}
 use Rattle.verdicts.proofs.judge.judge_buffer.Statement.{statement}
 use Rattle.verdicts.proofs.judge.judge_buffer.Tie as tie
 
@@ -39,19 +40,22 @@ module _ (s : tie.Start) where
       let k = chunk-inside g (o .law) (s .args .i) (s .pre .1 .0) in
       subst ChunkLength (sym (length-part (s .args .heap .now) (chunkPlace g (s .args .i)) (g .chunk) (omega (arith, o .heapLong)))) (chunk-length g (o .law))
 
+abbrev begun : tie.After-read-tag → tie.Start
+begun c = c .before .before .before .before .before .before .before .before .before
+
 -- the tag that is read is the chunk's
 tag-read : (c : tie.After-read-tag) →
-    let s = c .before .before .before .before .before .before .before .before in
+    let s = begun c in
     c .read-tag .result ≡ tagAt (chunkAt (judging s) (s .args .i))
 tag-read c = c .read-tag .ensures ∙ ap tagAt (c .before .chunk .ensures)
 
 -- one record alone names the buffer
 one-names : (c : tie.After-read-tag) →
-    let s = c .before .before .before .before .before .before .before .before in
+    let s = begun c in
     namesAfter (s .args .g) (s .args .records .now) (s .args .g .count) (s .args .i) ≡ 1
 one-names c =
-    let s = c .before .before .before .before .before .before .before .before in
-    sym (c .before .before .before .names .ensures ∙ digit s) ∙ c .before .before .if1 .left
+    let s = begun c in
+    sym (ap (λ (d : Digits). d .names) (c .before .before .before .before .read .ensures) ∙ digit s) ∙ c .before .before .if1 .left
 
 -- where T0 is the address of record `index`
 module _ (c : tie.After-p) where
@@ -59,7 +63,7 @@ module _ (c : tie.After-p) where
   index = c .p .given .0 .0
 
   abbrev start : tie.Start
-  start = c .before .before .before .before .before .before .before .before .before .before .before
+  start = begun (c .before .before .before)
 
   found : (index < start .args .g .count) × (tagAt (chunkAt (judging start) (start .args .i)) .t0 ≡ recordAddress (start .args .g) index)
   found =
@@ -69,11 +73,13 @@ module _ (c : tie.After-p) where
 
 returns : tie.Need-returns
 returns c =
-    let s = c .before .before .before .before .before .before in
-    sym (verdict-none (judging s) (s .args .i) (λ e. c .if1 .taken (c .before .names .ensures ∙ digit s ∙ e)))
+    let s = c .before .before .before .before .before .before .before in
+    sym
+    (verdict-none (judging s) (s .args .i)
+    (λ e. c .if1 .taken (ap (λ (d : Digits). d .names) (c .before .before .read .ensures) ∙ digit s ∙ e)))
 
 read-tag-requires : tie.Need-read-tag-requires
-read-tag-requires c κs = rw (c .chunk .ensures) (chunk-lawful (c .before .before .before .before .before .before .before))
+read-tag-requires c κs = rw (c .chunk .ensures) (chunk-lawful (c .before .before .before .before .before .before .before .before))
 
 buffer-requires : tie.Need-buffer-requires
 buffer-requires c κs =
@@ -97,7 +103,7 @@ returns-2 c =
 returns-3 : tie.Need-returns-3
 returns-3 c =
     let f = c .before .before in
-    let s = f .before .before .before .before .before .before .before .before .before in
+    let s = begun (f .before) in
     let g = s .args .g in
     sym
     (verdict-other (judging s) (s .args .i) (one-names (f .before))
@@ -125,7 +131,7 @@ returns-4 c =
     let at = c .before .before .before .before .before in
     let whole = k .before .chunk .ensures in
     let pattern = c .before .pattern .ensures ∙ ap patternOf (tag-read k) in
-    let met = c .before .before .before .is-met .ensures ∙ marks-met g r (s .args .marks .now) (s .pre .1 .1 .0) (index p) (found p .0) in
+    let met = ap (λ (d : Digits). d .met) (c .before .before .before .read2 .ensures) ∙ marks-met g r (s .args .marks .now) (s .pre .1 .1 .0) (index p) (found p .0) in
     let again = c .before .before .again-at .ensures ∙ ap (λ (e : Ending). againAt e (index p)) (s .pre .1 .1 .1) in
     c .judge-chained .ensures
     ∙ (λ x. chainedVerdict (whole x) (pattern x) (standing (met x) (again x)))

@@ -1,0 +1,4 @@
+pub mod Chain
+pub mod Walk
+pub mod Pairing
+pub mod Marks

@@ -1,0 +1,13 @@
+// The chain, each buffer's own record, and the marks that keep both for the judging.
+//
+// The layer promises: the chain is what document 01's rule makes of the records; a buffer's own record is the one that names it. All
+// that is kept between the passes is one lent byte for each of n places.
+
+// The chain of free records, walked over the marks.
+pub mod walk;
+
+// A buffer's own record.
+pub mod pairing;
+
+// The marks.
+pub mod marks;
