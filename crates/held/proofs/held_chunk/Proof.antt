@@ -1,6 +1,6 @@
 -- T0 must be a record's address, and that record must name the buffer. Assumes nothing.
 use mathlib.Core.Path.{_≡_, sym, ap, subst, _∙_}
-use Prim.Native.Nat.{ℕ, _<_}
+use Prim.Native.Nat.{_<_}
 use borrow.Author.Needs.{needs}
 use lib.ListN.{length}
 use Rattle.chunks.specs.Chunk.{ChunkLength, tagAt}
