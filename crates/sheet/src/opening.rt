@@ -3,7 +3,6 @@ ghost use mathlib.Core.Path.{_≡_};
 ghost use Rattle.geometry.specs.Limits.{Lawful};
 ghost use Rattle.sheet.specs.Opening.{measured, numbered, openedOf, openedWithLog, areasOf, lengthsOf};
 use crate::fields;
-use geometry::limits;
 use geometry::sheet::Sheet;
 use tags::refusal::Refusal;
 
@@ -37,7 +36,7 @@ fn measure(g: Sheet, heap_len: usize, records_len: usize) -> Opened
 pub fn judge_numbers(g: Sheet, heap_len: usize, records_len: usize) -> Opened
     ensures { λ r. ⌜ r ≡ numbered g «heap_len» «records_len» ⌝ }
 {
-    if limits::is_lawful(g) {
+    if lawful::is_lawful(g) {
         return measure(g, heap_len, records_len);
     }
     Opened::Refused(Refusal::BadNumber)
@@ -73,7 +72,7 @@ pub fn open_with_log(sheet: &[u8], heap_len: usize, records_len: usize, log_len:
 fn measure_areas(g: Sheet) -> Lengths
     ensures { λ r. ⌜ r ≡ areasOf g ⌝ }
 {
-    if limits::is_lawful(g) {
+    if lawful::is_lawful(g) {
         return Lengths::Areas(g.heap_length(), g.records_length());
     }
     Lengths::Refused(Refusal::BadNumber)

@@ -4,9 +4,9 @@ use native.Mathlib.Nat.{mul-le-mul}
 use native.Mathlib.Omega.{arith}
 use borrow.Author.Tests.{eq-eqb, ne-eqb, le-leb, lt-leb}
 use borrow.Author.Needs.{needs}
 use Rattle.geometry.specs.Limits.{sizesLawful}
-use Rattle.geometry.proofs.limits.sizes_lawful.Statement.{statement}
-use Rattle.geometry.proofs.limits.sizes_lawful.Tie as tie
+use Rattle.lawful.proofs.sizes_lawful.Statement.{statement}
+use Rattle.lawful.proofs.sizes_lawful.Tie as tie
 
 mul-if7 : tie.Need-mul-if7
 mul-if7 c =

@@ -5,9 +5,9 @@ use Prim.Native.Nat.{_+_}
 use lib.Dec.{leb}
 use borrow.Author.Tests.{eq-eqb, ne-eqb, le-leb, lt-leb}
 use borrow.Author.Needs.{needs}
 use Rattle.geometry.specs.Limits.{basesLawful}
-use Rattle.geometry.proofs.limits.bases_lawful.Statement.{statement}
-use Rattle.geometry.proofs.limits.bases_lawful.Tie as tie
+use Rattle.lawful.proofs.bases_lawful.Statement.{statement}
+use Rattle.lawful.proofs.bases_lawful.Tie as tie
 
 -- where the first six tests hold, the last decides
 last : (c : tie.Else6) →

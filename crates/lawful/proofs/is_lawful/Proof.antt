@@ -2,10 +2,10 @@
 use mathlib.Core.Path.{sym, _∙_}
 use native.Mathlib.Omega.{arith}
 use borrow.Author.Needs.{needs}
 use Rattle.geometry.proofs.Sheets.{sizes-known}
 use Rattle.geometry.specs.Limits.{lawful, SizesOf}
-use Rattle.geometry.proofs.limits.is_lawful.Statement.{statement}
-use Rattle.geometry.proofs.limits.is_lawful.Tie as tie
+use Rattle.lawful.proofs.is_lawful.Statement.{statement}
+use Rattle.lawful.proofs.is_lawful.Tie as tie
 
 -- the sizes hold where they passed their test
 sized : (c : tie.Then1) → SizesOf (c .before .before .args .g)
