@@ -1,6 +1,6 @@
 -- The laws of the report's text: of pieces one after the other, of decimals, of the lines, and of all or nothing. Assumes nothing.
 use mathlib.Core.Path.{_≡_, refl, sym, ap, subst, _∙_}
-use mathlib.Core.List.{List, [], _∷_, _++_}
+use mathlib.Core.List.{List, [], _∷_, _++_, append-assoc}
 use Prim.Native.String.{String}
 use Prim.Native.Nat.{ℕ, zero, suc, _+_, _-_, _*_, _/_, _%_, _^_, _≤_, _<_}
 use native.Mathlib.Nat.{not-suc-le-zero, add-zero, zero-add, pow-suc, one-le-pow}
@@ -34,6 +34,10 @@ then {l} {m} {o} {a} {b} {at} {p} {q} v w = record {
   filled = λ h. sets-next l a b at (length a) p (v .filled (omega (arith, w .ends))) refl (sym (v .ends)) (w .filled (omega (arith, v .long)));
   ends = let h = length-append a b in let e = v .ends in let f = w .ends in omega arith;
 }
+
+-- one piece, and then two that were put as one
+pub then-both : {l m o : List ℕ} {at p q : ℕ} (a b c : List ℕ) → Wrote l at a m p → Wrote m p (b ++ c) o q → Wrote l at (a ++ b ++ c) o q
+then-both {l} {m} {o} {at} {p} {q} a b c v w = subst (λ (x : List ℕ). Wrote l at x o q) (sym (append-assoc a b c)) (then v w)
 
 pub wrote-none : (l : List ℕ) (at : ℕ) → Wrote l at [] l at
 wrote-none l at = record { long = refl; filled = λ h. refl; ends = sym (add-zero at) }

@@ -4,7 +4,7 @@ ghost use mathlib.Core.Path.{_≡_};
 ghost use mathlib.Core.List.{_++_};
 ghost use Prim.Native.Nat.{_+_, _^_, _≤_, _<_};
 ghost use lib.ListN.{length};
-ghost use Rattle.lines.specs.Text.{decimalOf, headerOf, hasOffset, faultLineOf, lineOf, chainLineOf, faultOf, faultsOf, labelled};
+ghost use Rattle.lines.specs.Text.{decimalOf, labelled, headerOf, hasOffset, faultLineOf, lineOf, chainLineOf, faultOf, faultsOf};
 ghost use Rattle.lines.specs.Text.{Put, writing, refusalLineOf, mostBuffers, headerMost, lineMost, chainMost, faultsMost, longest};
 ghost use Rattle.tags.specs.Filling.{filling};
 ghost use Rattle.tags.specs.Refusal.{refusalNumber};
@@ -45,7 +45,7 @@ fn put(output: &mut [u8], at: usize, piece: &[u8]) -> usize
 
 // Puts the number in decimal.
 fn put_decimal(output: &mut [u8], at: usize, n: u64) -> usize
-    requires { ⌜ at < 2 ^ 63 ⌝ }
+    requires { ⌜ at + 20 < 2 ^ 64 ⌝ }
     ensures put { λ r. ⌜ Put output at (decimalOf n) r ⌝ }
     ensures short { λ r. ⌜ r ≤ at + 20 ⌝ }
 {
@@ -56,13 +56,33 @@ fn put_decimal(output: &mut [u8], at: usize, n: u64) -> usize
 
 // Puts the number in decimal, and the word behind it.
 fn put_field(output: &mut [u8], at: usize, n: u64, word: &[u8]) -> usize
-    requires { ⌜ at < 2 ^ 62 ⌝ }
+    requires { ⌜ at + 40 < 2 ^ 64 ⌝ }
     requires { ⌜ length (now word) ≤ 20 ⌝ }
     ensures put { λ r. ⌜ Put output at (decimalOf n ++ now (word .entry)) r ⌝ }
     ensures short { λ r. ⌜ r ≤ at + 40 ⌝ }
 {
     let a = put_decimal(output, at, n);
     put(output, a, word)
+}
+
+// Puts a line of a word and a number.
+fn put_labelled(output: &mut [u8], at: usize, word: &[u8], n: u64) -> usize
+    requires { ⌜ at < 2 ^ 63 ⌝ }
+    requires { ⌜ length (now word) ≤ 20 ⌝ }
+    ensures { λ r. ⌜ Put output at (labelled (now (word .entry)) n) r ⌝ }
+{
+    let a = put(output, at, word);
+    put_field(output, a, n, b"\n")
+}
+
+// Puts a number, the word behind it, and a number that ends the line.
+fn put_pair(output: &mut [u8], at: usize, n: u64, word: &[u8], last: u64) -> usize
+    requires { ⌜ at < 2 ^ 62 ⌝ }
+    requires { ⌜ length (now word) ≤ 20 ⌝ }
+    ensures { λ r. ⌜ Put output at (labelled (decimalOf n ++ now (word .entry)) last) r ⌝ }
+{
+    let a = put_decimal(output, at, n);
+    put_labelled(output, a, word, last)
 }
 
 // No report of n buffers is longer.
@@ -82,39 +102,38 @@ pub fn put_header(output: &mut [u8]) -> usize
 }
 
 // Whether the line of a fault ends with an offset.
-fn has_offset(number: u32) -> bool
+fn has_offset(number: u64) -> bool
     ensures { λ r. ⌜ r ≡ hasOffset number ⌝ }
 {
     number == 25 || number == 26 || number == 28
 }
 
 // Puts the line of buffer i, which has a fault, by the number and the value of its verdict.
-fn put_fault(output: &mut [u8], at: usize, i: usize, number: u32, value: u32) -> usize
+fn put_fault(output: &mut [u8], at: usize, i: u64, number: u64, value: u64) -> usize
     requires { ⌜ at < 2 ^ 61 ⌝ }
     ensures { λ r. ⌜ Put output at (faultLineOf i number value) r ⌝ }
 {
-    let a = put_field(output, at, i as u64, b" fault ");
+    let word: &[u8] = b" fault ";
     if has_offset(number) {
-        let b = put_field(output, a, number as u64, b" ");
-        return put_field(output, b, value as u64, b"\n");
+        let a = put_field(output, at, i, word);
+        return put_pair(output, a, number, b" ", value);
     }
-    put_field(output, a, number as u64, b"\n")
+    put_pair(output, at, i, word, number)
 }
 
 // Puts the line of buffer i, by the number and the value of its verdict.
-fn put_verdict(output: &mut [u8], at: usize, i: usize, number: u32, value: u32) -> usize
+fn put_verdict(output: &mut [u8], at: usize, i: u64, number: u64, value: u64) -> usize
     requires { ⌜ at < 2 ^ 61 ⌝ }
     ensures { λ r. ⌜ Put output at (lineOf i number value) r ⌝ }
 {
     if number == 0 {
-        return put_field(output, at, i as u64, b" free\n");
+        return put_field(output, at, i, b" free\n");
     }
     if number == 1 {
-        return put_field(output, at, i as u64, b" whole\n");
+        return put_field(output, at, i, b" whole\n");
     }
     if number == 2 {
-        let a = put_field(output, at, i as u64, b" allocated ");
-        return put_field(output, a, value as u64, b"\n");
+        return put_pair(output, at, i, b" allocated ", value);
     }
     put_fault(output, at, i, number, value)
 }
@@ -127,7 +146,7 @@ pub fn put_line(output: &mut [u8], at: usize, i: usize, number: u32, value: u32)
     ensures put { λ r. ⌜ Put output at (lineOf i number value) r ⌝ }
     ensures short { λ r. ⌜ r ≤ at + lineMost ⌝ }
 {
-    put_verdict(output, at, i, number, value)
+    put_verdict(output, at, i as u64, number as u64, value as u64)
 }
 
 // Puts the chain line.
@@ -139,24 +158,12 @@ pub fn put_chain(output: &mut [u8], at: usize, met: usize, ending: Ending) -> us
     ensures short { λ r. ⌜ r ≤ at + chainMost ⌝ }
 {
     let a = put(output, at, b"chain ");
+    let n = met as u64;
     match ending {
-        Ending::End => put_field(output, a, met as u64, b" end\n"),
-        Ending::Broken => put_field(output, a, met as u64, b" broken\n"),
-        Ending::Again(r) => {
-            let b = put_field(output, a, met as u64, b" again ");
-            put_field(output, b, r as u64, b"\n")
-        }
+        Ending::End => put_field(output, a, n, b" end\n"),
+        Ending::Broken => put_field(output, a, n, b" broken\n"),
+        Ending::Again(r) => put_pair(output, a, n, b" again ", r as u64),
     }
-}
-
-// Puts a line of a word and a number.
-fn put_labelled(output: &mut [u8], at: usize, word: &[u8], n: u64) -> usize
-    requires { ⌜ at < 2 ^ 61 ⌝ }
-    requires { ⌜ length (now word) ≤ 20 ⌝ }
-    ensures { λ r. ⌜ Put output at (labelled (now (word .entry)) n) r ⌝ }
-{
-    let a = put(output, at, word);
-    put_field(output, a, n, b"\n")
 }
 
 // Puts the last line.

@@ -3,8 +3,8 @@ use mathlib.Core.List.{List}
 use Prim.Native.Nat.{ℕ, _+_, _≤_}
 use native.Mathlib.Omega.{arith}
 use borrow.Author.Needs.{needs}
-use Rattle.lines.specs.Text.{chainLineOf, chainMost, Wrote}
-use Rattle.lines.proofs.Texts.{then, chain-line-short}
+use Rattle.lines.specs.Text.{ascii, fieldOf, chainLineOf, chainMost, Wrote}
+use Rattle.lines.proofs.Texts.{then, then-both, chain-line-short}
 use Rattle.lines.proofs.text.put_chain.Statement.{statement}
 use Rattle.lines.proofs.text.put_chain.Tie as tie
 
@@ -32,16 +32,18 @@ returns-2 c =
 returns-3 : tie.Need-returns-3
 unfolding chainLineOf
 returns-3 c =
-    let w = c .before .before .put-field4 .ensures in
-    let v = c .before .before .before .before .before .before .before in
-    let m = v .before .before .before .before in
+    let w = c .before .before in
+    let m = w .before .before .before .before in
     let p = m .before .before .before .before in
-    short (p .before .before .before .before) (rw (m .ending .given .1) (then (then (p .put .ensures) (v .put-field3 .ensures .0)) (w .0)))
+    let s = p .before .before .before .before in
+    short s
+    (rw (m .ending .given .1)
+    (then-both (ascii "chain ") (fieldOf (s .args .met) " again ") (fieldOf (m .ending .given .0 .0) "\n") (p .put .ensures) (w .put-pair .ensures)))
 
 pub put-chain-spec : {M : Type 1} → statement M
 put-chain-spec =
     tie.close
     (tie.spec
     (λ c. search needs) (λ c κs. search needs) (λ c. search needs) (λ c. search needs) (λ c κs. search needs) (λ c. search needs)
-    (λ c. search needs) (λ c κs. search needs) (λ c. search needs) (λ c. search needs) (λ c κs. search needs) (λ c. search needs)
-    (λ c κs. search needs) (λ c. search needs) returns (λ c. search needs) returns-2 (λ c. search needs) returns-3)
+    (λ c. search needs) (λ c κs. search needs) (λ c. search needs) (λ c. search needs) (λ c κs. search needs) (λ c. search needs) returns
+    (λ c. search needs) returns-2 (λ c. search needs) returns-3)

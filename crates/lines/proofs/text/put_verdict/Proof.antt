@@ -1,8 +1,7 @@
--- The tests stand in the order of the definition, and the pieces of each line one after the other. Assumes nothing.
+-- The tests stand in the order of the definition. Assumes nothing.
 use borrow.Author.Tests.{eq-eqb, ne-eqb}
 use borrow.Author.Needs.{needs}
 use Rattle.lines.specs.Text.{lineOf}
-use Rattle.lines.proofs.Texts.{then}
 use Rattle.lines.proofs.text.put_verdict.Statement.{statement}
 use Rattle.lines.proofs.text.put_verdict.Tie as tie
 
@@ -22,12 +21,9 @@ returns-2 c =
 returns-3 : tie.Need-returns-3
 unfolding lineOf
 returns-3 c =
-    let l = c .before .before .before .before .before .before .before in
-    let i = l .before .before .before in
-    let v = l .put-field3 .ensures in
-    let w = c .before .before .put-field4 .ensures in
+    let i = c .before .before .before .before .before in
     simp (ne-eqb _ _ (i .before .before .if1 .left), ne-eqb _ _ (i .before .if2 .left), eq-eqb _ _ (i .if3 .taken))
-    (then (v .0) (w .0))
+    (c .before .before .put-pair .ensures)
 
 returns-4 : tie.Need-returns-4
 unfolding lineOf
@@ -41,5 +37,4 @@ put-verdict-spec =
     tie.close
     (tie.spec
     (λ c. search needs) (λ c κs. search needs) (λ c. search needs) returns (λ c. search needs) (λ c κs. search needs) (λ c. search needs)
-    returns-2 (λ c. search needs) (λ c κs. search needs) (λ c. search needs) (λ c κs. search needs) (λ c. search needs) returns-3
-    (λ c κs. search needs) (λ c. search needs) returns-4)
+    returns-2 (λ c. search needs) (λ c κs. search needs) (λ c. search needs) returns-3 (λ c κs. search needs) (λ c. search needs) returns-4)
