@@ -129,7 +129,8 @@ module _ (g : Sheet) (records : List ℕ) (i : ℕ) where
   unfolding ownIn
   own-none d = not-single (namers (addressWord records) (g .count) (bufferAddress g i)) d
 
-  pub own-some : namesAfter g records (g .count) i ≡ 1 → (j : ℕ) × ((ownIn g records i ≡ One j) × ((j < g .count) × (addressWord records j ≡ bufferAddress g i)))
+  pub own-some : namesAfter g records (g .count) i ≡ 1
+      → (j : ℕ) × ((ownIn g records i ≡ One j) × ((j < g .count) × (addressWord records j ≡ bufferAddress g i)))
   unfolding ownIn
   own-some c =
       let s = single (namers (addressWord records) (g .count) (bufferAddress g i)) c in

@@ -11,7 +11,9 @@ returns : tie.Need-returns
 returns c =
     let s = c .before .before in
     let g = s .args .g in
-    sym (place-at (g .«record_base») recordSize (g .count) (s .args .t0) (s .args .i) (omega arith) (s .pre .1) (sym (c .if1 .taken) ∙ c .before .record-address .ensures))
+    sym
+    (place-at (g .«record_base») recordSize (g .count) (s .args .t0) (s .args .i) (omega arith) (s .pre .1)
+    (sym (c .if1 .taken) ∙ c .before .record-address .ensures))
 
 pub find-named-spec : {M : Type 1} → statement M
 find-named-spec = tie.close (tie.spec (λ c κs. search needs) returns (λ c κs. search needs) (λ c. search needs))

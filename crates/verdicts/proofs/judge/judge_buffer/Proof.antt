@@ -131,7 +131,8 @@ returns-4 c =
     let at = c .before .before .before .before .before in
     let whole = k .before .chunk .ensures in
     let pattern = c .before .pattern .ensures ∙ ap patternOf (tag-read k) in
-    let met = ap (λ (d : Digits). d .met) (c .before .before .before .read2 .ensures) ∙ marks-met g r (s .args .marks .now) (s .pre .1 .1 .0) (index p) (found p .0) in
+    let digits = c .before .before .before .read2 .ensures in
+    let met = ap (λ (d : Digits). d .met) digits ∙ marks-met g r (s .args .marks .now) (s .pre .1 .1 .0) (index p) (found p .0) in
     let again = c .before .before .again-at .ensures ∙ ap (λ (e : Ending). againAt e (index p)) (s .pre .1 .1 .1) in
     c .judge-chained .ensures
     ∙ (λ x. chainedVerdict (whole x) (pattern x) (standing (met x) (again x)))
