@@ -16,7 +16,6 @@ use Rattle.geometry.specs.Sheet.{bufferAddress}
 use Rattle.geometry.specs.declared.sheet.Sheet.{Sheet}
 use Rattle.chain.specs.Pairing.{namers, theOne, ownIn}
 use Rattle.chain.specs.Marks.{toTwo, namesAfter}
-use Rattle.chain.specs.declared.pairing.Own.{Own}
 use Rattle.chain.specs.declared.pairing.Own.the-variants.{One, NotOne}
 
 -- ---- the records that name a buffer

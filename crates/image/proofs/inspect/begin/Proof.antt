@@ -1,13 +1,11 @@
 -- An image that is refused, or a row that is too short, begins nothing; else the image is marked. Assumes nothing.
-use mathlib.Core.Path.{_≡_, sym, subst, _∙_}
+use mathlib.Core.Path.{sym, _∙_}
 use native.Mathlib.Omega.{arith}
 use borrow.Author.Needs.{needs}
 use lib.ListN.{length}
 use Rattle.sheet.specs.Opening.{Open}
 use Rattle.sheet.specs.Areas.{lent}
 use Rattle.sheet.proofs.Opens.{opened-known}
-use Rattle.image.specs.Inspect.{Begins}
-use Rattle.image.specs.declared.inspect.Begun.{Begun}
 use Rattle.image.proofs.Findings.{begins-refused, begins-short, begins-image}
 use Rattle.image.proofs.inspect.begin.Statement.{statement}
 use Rattle.image.proofs.inspect.begin.Tie as tie

@@ -1,5 +1,5 @@
 -- The verdict on the buffer, beside its index. Assumes nothing.
-use mathlib.Core.Path.{subst, ap, _∙_}
+use mathlib.Core.Path.{subst, ap}
 use Prim.Native.Nat.{_<_}
 use borrow.Author.Needs.{needs}
 use Rattle.tags.specs.declared.verdict.Verdict.{Verdict}

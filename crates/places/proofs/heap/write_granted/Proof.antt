@@ -1,6 +1,5 @@
 -- The chunk comes back in its place. Assumes nothing.
-use mathlib.Core.Path.{sym, ap, _∙_}
-use mathlib.Core.Bool.{true}
+use mathlib.Core.Path.{ap, _∙_}
 use Prim.Native.Nat.{ℕ}
 use native.Mathlib.Omega.{arith}
 use Rattle.chunks.specs.Chunk.{lawfulSize, grantedChunk}
