@@ -8,10 +8,10 @@ use native.Mathlib.Omega.{arith}
 use lib.ListN.{length, replicate, length-append, length-replicate}
 use lib.Seq.{sets, length-sets}
 use Rattle.words.specs.Word.{part, flat, bytesOf, number, numberAt}
-use Rattle.words.specs.Run.{repeated}
+use Rattle.runs.specs.Run.{repeated}
 use Rattle.words.proofs.Parts.{sets-next, part-place, part-field, part-part, part-left, part-right, part-all, part-front, part-flat}
 use Rattle.words.proofs.Numbers.{length-bytesOf, number-back, numberAt-written}
-use Rattle.words.proofs.Runs.{repeated-none}
+use Rattle.runs.proofs.Runs.{repeated-none}
 use Rattle.area.specs.Record.{recordSize, recordWord, nextAt, bufferAt, stampHighAt, stampLowAt, threadAt, withNext, stamped, recordBytes}
 use Rattle.area.specs.Place.{placeAddress}
 use Rattle.area.specs.declared.record.Stamp.{Stamp}

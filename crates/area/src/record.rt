@@ -7,8 +7,8 @@ ghost use lib.Seq.{sets};
 ghost use Rattle.words.specs.Word.{part, numberAt};
 ghost use Rattle.area.specs.Place.{PartAt};
 ghost use Rattle.area.specs.Record.{recordSize, recordWord, withNext, stamped, recordBytes};
+use runs::run;
 use window::Word;
-use words::run;
 use words::word;
 
 pub const SIZE: usize = 96;

@@ -9,12 +9,12 @@ use lib.Dec.{eqb, leb}
 use lib.ListN.{length, getD, length-append, length-set}
 use lib.Seq.{sets}
 use Rattle.words.specs.Word.{part, bytesOf}
-use Rattle.words.specs.Run.{repeated, difference}
-use Rattle.words.specs.declared.run.Difference.{Difference}
-use Rattle.words.specs.declared.run.Difference.the-variants.{At, Nowhere}
+use Rattle.runs.specs.Run.{repeated, difference}
+use Rattle.runs.specs.declared.run.Difference.{Difference}
+use Rattle.runs.specs.declared.run.Difference.the-variants.{At, Nowhere}
 use Rattle.words.proofs.Numbers.{length-bytesOf}
 use Rattle.words.proofs.Parts.{sets-next, sets-whole}
-use Rattle.words.proofs.Runs.{length-repeated, repeated-once}
+use Rattle.runs.proofs.Runs.{length-repeated, repeated-once}
 use Rattle.tags.specs.SizeCode.{decodedOf}
 use Rattle.tags.proofs.Tags.{decoded-within}
 use Rattle.chunks.specs.Chunk.{redzone, guard, bufferSize, chunkOf, freeChunk, grantedChunk, lawfulSize, grantSize}

@@ -6,7 +6,7 @@ use Prim.Native.Nat.{ℕ, _+_, _-_, _%_, _≤_}
 use lib.Dec.{leb}
 use lib.ListN.{length, set}
 use Rattle.words.specs.Word.{numberAt, bytesOf}
-use Rattle.words.specs.Run.{repeated}
+use Rattle.runs.specs.Run.{repeated}
 use Rattle.tags.specs.SizeCode.{codeOf}
 use Rattle.tags.specs.Tag.{tagOf}
 use Rattle.tags.specs.declared.tag.Tag.{Tag}

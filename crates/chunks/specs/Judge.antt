@@ -5,9 +5,9 @@ use Prim.Native.Nat.{ℕ, _+_}
 use lib.Dec.{eqb}
 use lib.ListN.{getD, set}
 use Rattle.words.specs.Word.{part, numberAt, bytesOf}
-use Rattle.words.specs.Run.{repeated, difference}
-use Rattle.words.specs.declared.run.Difference.{Difference}
-use Rattle.words.specs.declared.run.Difference.the-variants.{At, Nowhere}
+use Rattle.runs.specs.Run.{repeated, difference}
+use Rattle.runs.specs.declared.run.Difference.{Difference}
+use Rattle.runs.specs.declared.run.Difference.the-variants.{At, Nowhere}
 use Rattle.chunks.specs.Chunk.{redzone, freeFill, guard, bufferSize}
 use Rattle.tags.specs.SizeCode.{decodedOf}
 use Rattle.tags.specs.declared.size_code.Decoded.{Decoded}

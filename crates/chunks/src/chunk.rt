@@ -2,12 +2,12 @@
 ghost use mathlib.Core.Path.{_≡_};
 ghost use mathlib.Core.Bool.{true};
 ghost use lib.ListN.{length};
-ghost use Rattle.words.specs.Run.{repeated};
+ghost use Rattle.runs.specs.Run.{repeated};
 ghost use Rattle.chunks.specs.Chunk.{ChunkLength, lawfulSize, redzone, chunkOf, bufferSize, freeChunk, grantedChunk, tagAt};
+use runs::run;
 use tags::size_code;
 use tags::tag::State;
 use tags::tag::Tag;
-use words::run;
 use words::word;
 
 pub const REDZONE: u32 = 0xfeedface;

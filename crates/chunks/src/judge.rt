@@ -6,11 +6,11 @@ ghost use Rattle.words.specs.Word.{bytesOf};
 ghost use Rattle.chunks.specs.Chunk.{ChunkLength, bufferSize};
 ghost use Rattle.chunks.specs.Judge.{zoneVerdict, sizedVerdict, freeVerdict, allocatedVerdict};
 use crate::chunk;
+use runs::run;
+use runs::run::Difference;
 use tags::size_code;
 use tags::size_code::Decoded;
 use tags::verdict::Verdict;
-use words::run;
-use words::run::Difference;
 use words::word;
 
 // The verdict on a chunk of the free pattern.

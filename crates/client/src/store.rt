@@ -8,11 +8,11 @@ ghost use Rattle.client.specs.Store.{storeTest, storePlan, storeOf};
 use crate::bounds;
 use geometry::sheet::Sheet;
 use held::Held;
+use runs::run;
 use sheet::opening;
 use sheet::opening::Opened;
 use tags::refusal::Answer;
 use tags::refusal::Refusal;
-use words::run;
 
 // The buffer of an open image that a store of so many bytes at an offset writes to, or why it does not.
 fn fit(heap: &[u8], records: &[u8], g: Sheet, address: u32, offset: u32, len: usize) -> Held

@@ -6,7 +6,7 @@ use borrow.Author.Tests.{eqb-true, not-true}
 use lib.Bits.{bitXor}
 use lib.Dec.{eqb}
 use Rattle.words.specs.Word.{part, flat, number, bytesOf, numberAt}
-use Rattle.words.specs.Run.{repeated, differenceFrom}
+use Rattle.runs.specs.Run.{repeated, differenceFrom}
 use Rattle.words.specs.Age.{ageOf}
 use Rattle.tags.specs.Tag.{stateWord, tagOf, patternOf, patternWord}
 use Rattle.tags.specs.SizeCode.{decodedOf}

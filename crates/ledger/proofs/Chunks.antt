@@ -14,10 +14,10 @@ use lib.Dec.{lit<}
 use lib.ListN.{length, getD, set, length-set, length-append}
 use lib.Seq.{sets, length-sets, getD-set-same}
 use Rattle.words.specs.Word.{part, number, bytesOf, numberAt}
-use Rattle.words.specs.Run.{repeated}
+use Rattle.runs.specs.Run.{repeated}
 use Rattle.words.proofs.Numbers.{length-bytesOf, number-back, numberAt-outside}
 use Rattle.words.proofs.Parts.{getD-part, part-left, part-right, part-all, part-written, part-before, part-after, part-inside, sets-over, sets-same}
-use Rattle.words.proofs.Runs.{length-repeated, repeated-more, repeated-once, same-nowhere, part-repeated}
+use Rattle.runs.proofs.Runs.{length-repeated, repeated-more, repeated-once, same-nowhere, part-repeated}
 use Rattle.tags.specs.Tag.{tagOf, stateWord}
 use Rattle.tags.specs.SizeCode.{codeOf}
 use Rattle.chunks.specs.Chunk.{redzone, freeFill, grantFill, guard, chunkOf, freeChunk, grantedChunk, tagAt, lawfulSize, grantSize}

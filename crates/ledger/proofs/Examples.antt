@@ -5,7 +5,7 @@ use mathlib.Core.Option.{none, some}
 use lib.Dec.{lit<}
 use lib.ListN.{replicate}
 use Rattle.words.specs.Word.{part, flat, number, bytesOf, numberAt}
-use Rattle.words.specs.Run.{repeated, differenceFrom}
+use Rattle.runs.specs.Run.{repeated, differenceFrom}
 use Rattle.tags.specs.Tag.{tagOf, patternWord, patternOf}
 use Rattle.tags.specs.SizeCode.{decodedOf}
 use Rattle.chunks.specs.Chunk.{grantFill, chunkOf, freeChunk, grantedChunk, tagAt}

@@ -6,7 +6,7 @@ use Prim.Native.Nat.{ℕ}
 use lib.Bits.{bitXor}
 use lib.ListN.{replicate, set}
 use Rattle.words.specs.Word.{bytesOf}
-use Rattle.words.specs.Run.{repeated}
+use Rattle.runs.specs.Run.{repeated}
 use Rattle.words.specs.Age.{ageOf}
 use Rattle.tags.specs.Tag.{stateWord}
 use Rattle.chunks.specs.Chunk.{redzone, freeFill, grantFill, guard, chunkOf}

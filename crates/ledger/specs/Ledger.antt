@@ -9,7 +9,7 @@ use lib.Dec.{eqb}
 use lib.Seq.{sets}
 use Rattle.words.specs.Word.{part}
 use Rattle.words.specs.Sum.{total}
-use Rattle.words.specs.Run.{repeated}
+use Rattle.runs.specs.Run.{repeated}
 use Rattle.tags.specs.Refusal.{done}
 use Rattle.tags.specs.Verdict.{verdictNumber, isFault, isFoundAllocated}
 use Rattle.tags.specs.declared.ending.Ending.the-variants.{End}

@@ -9,10 +9,10 @@ ghost use Rattle.lines.specs.Text.{Put, writing, refusalLineOf, mostBuff
 ghost use Rattle.tags.specs.Filling.{filling};
 ghost use Rattle.tags.specs.Refusal.{refusalNumber};
 ghost use Rattle.tags.specs.Ending.{endingValue};
+use runs::run;
 use tags::ending::Ending;
 use tags::refusal;
 use tags::refusal::Refusal;
-use words::run;
 
 // No piece of a report of at most 100,000 buffers is longer: the header, the line of a buffer, the chain line, the last line.
 const HEADER: usize = 14;

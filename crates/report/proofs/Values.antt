@@ -7,10 +7,10 @@ use native.Mathlib.Omega.{arith}
 use lib.Dec.{eqb}
 use lib.ListN.{length, getD, drop, length-take}
 use Rattle.words.specs.Word.{part, bytesOf}
-use Rattle.words.specs.Run.{repeated, difference}
-use Rattle.words.specs.declared.run.Difference.{Difference}
-use Rattle.words.specs.declared.run.Difference.the-variants.{At, Nowhere}
-use Rattle.words.proofs.Runs.{differs-within}
+use Rattle.runs.specs.Run.{repeated, difference}
+use Rattle.runs.specs.declared.run.Difference.{Difference}
+use Rattle.runs.specs.declared.run.Difference.the-variants.{At, Nowhere}
+use Rattle.runs.proofs.Runs.{differs-within}
 use Rattle.words.proofs.Tests.{by-test}
 use Rattle.tags.specs.SizeCode.{decodedOf}
 use Rattle.tags.specs.Tag.{patternOf}

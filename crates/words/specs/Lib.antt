@@ -1,4 +1,3 @@
 pub mod Word
-pub mod Run
 pub mod Age
 pub mod Sum

@@ -35,7 +35,7 @@ fn bytes2(v: u16) -> [u8; 2]
 }
 
 // The four bytes of a number.
-pub(crate) fn bytes4(v: u32) -> [u8; 4]
+pub fn bytes4(v: u32) -> [u8; 4]
     ensures { λ r. ⌜ r ≡ bytesOf 4 v ⌝ }
 {
     [low(v / 16777216), low(v / 65536), low(v / 256), low(v)]

@@ -7,4 +7,4 @@ use Rattle.chunks.proofs.chunk.read_tag.Tie as tie
 pub read-tag-spec : {M : Type 1} → statement M
 unfolding tagAt
 read-tag-spec =
-    tie.close (tie.spec (λ c. search needs) (λ c. search needs) (λ c κs. search needs) (λ c. search needs) (λ c κs. search needs) (λ c. cc))
+    tie.close (tie.spec (λ c. search needs) (λ c. search needs) (λ c κs. search needs) (λ c. search needs) (λ c κs. search needs) (λ c. rw (c .before .read-u32 .ensures, c .read-u322 .ensures)))

@@ -24,6 +24,6 @@ write-granted-spec =
     (tie.spec
     (λ c κs. search needs) (λ c. search needs) (λ c κs. search needs) (λ c. search needs) cast-encode (λ c κs. search needs)
     (λ c κs. search needs) (λ c. search needs) slice-write-chunk (λ c. search needs)
-    (λ c. rw (c .before .before .before .before .enum-told .given .1) (cc))
+    (λ c. let w = c .before .before in rw (w .before .before .enum-told .given .1, w .write .ensures, w .before .before .before .before .new .ensures))
     (λ c. search needs)
-    (λ c. rw (c .before .before .before .before .before .before .grant .given .1) (cc)))
+    (λ c. let w = c .before .before in let g = w .before .before .before .before in rw (g .grant .given .1, w .write2 .ensures, w .before .encode .ensures, g .before .before .new .ensures)))

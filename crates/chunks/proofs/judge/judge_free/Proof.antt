@@ -2,7 +2,7 @@
 use Prim.Native.Nat.{_<_}
 use native.Mathlib.Omega.{arith}
 use borrow.Author.Needs.{needs}
-use Rattle.words.proofs.Runs.{run-within}
+use Rattle.runs.proofs.Runs.{run-within}
 use Rattle.chunks.specs.Judge.{freeVerdict}
 use Rattle.chunks.proofs.judge.judge_free.Statement.{statement}
 use Rattle.chunks.proofs.judge.judge_free.Tie as tie

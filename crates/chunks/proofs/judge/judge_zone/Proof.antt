@@ -3,7 +3,7 @@ use Prim.Native.Nat.{_<_}
 use native.Mathlib.Omega.{arith}
 use borrow.Author.Needs.{needs}
 use Rattle.chunks.proofs.Chunks.{zone-at, zone-sound}
-use Rattle.words.proofs.Runs.{run-within}
+use Rattle.runs.proofs.Runs.{run-within}
 use Rattle.chunks.proofs.judge.judge_zone.Statement.{statement}
 use Rattle.chunks.proofs.judge.judge_zone.Tie as tie
 

@@ -11,4 +11,17 @@ read-spec =
     (tie.spec
     (λ c κs. search needs) (λ c κs. search needs) (λ c κs. search needs) (λ c κs. search needs) (λ c. search needs) (λ c κs. search needs)
     (λ c. search needs) (λ c κs. search needs) (λ c. search needs) (λ c κs. search needs) (λ c κs. search needs) (λ c. search needs)
-    (λ c. cc))
+    (λ c.
+    let l = c .before in
+    let s = l .before in
+    let a = s .before .before .before in
+    rw (
+      a .before .before .long-body .ensures,
+      a .before .long-body2 .ensures,
+      a .long-body3 .ensures,
+      s .before .before .short-body .ensures,
+      s .before .short-body2 .ensures,
+      s .short-body3 .ensures,
+      l .long-body4 .ensures,
+      c .short-body4 .ensures,
+    )))

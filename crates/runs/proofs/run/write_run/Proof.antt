@@ -1,8 +1,8 @@
 -- The run is copied over the part that begins at the offset, and fills it. Assumes nothing.
 use borrow.Author.Needs.{needs}
 use Rattle.words.proofs.Parts.{part-copied}
-use Rattle.words.proofs.run.write_run.Statement.{statement}
-use Rattle.words.proofs.run.write_run.Tie as tie
+use Rattle.runs.proofs.run.write_run.Statement.{statement}
+use Rattle.runs.proofs.run.write_run.Tie as tie
 
 returns : tie.Need-returns
 returns c =

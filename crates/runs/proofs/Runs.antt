@@ -10,11 +10,11 @@ use borrow.Author.Tests.{eq-eqb, ne-eqb}
 use lib.Dec.{eqb}
 use lib.ListN.{length, getD, replicate, length-append, length-replicate, getD-replicate, List·getD-append}
 use lib.Seq.{sets, ext-getD, getD-at}
 use Rattle.words.specs.Word.{part, bytesOf}
-use Rattle.words.specs.Run.{repeated, differenceFrom, difference}
-use Rattle.words.specs.declared.run.Difference.{Difference}
-use Rattle.words.specs.declared.run.Difference.the-variants.{At, Nowhere}
+use Rattle.runs.specs.Run.{repeated, differenceFrom, difference}
+use Rattle.runs.specs.declared.run.Difference.{Difference}
+use Rattle.runs.specs.declared.run.Difference.the-variants.{At, Nowhere}
 use Rattle.words.proofs.Parts.{length-part, getD-part, sets-then}
 
 -- ---- a word again and again
 

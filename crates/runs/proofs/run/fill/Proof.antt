@@ -5,10 +5,10 @@ use native.Mathlib.Omega.{arith}
 use borrow.Author.Needs.{needs}
 use lib.Seq.{sets}
 use lib.ListN.{length}
-use Rattle.words.proofs.Runs.{fill-more}
-use Rattle.words.specs.Run.{repeated}
-use Rattle.words.proofs.run.fill.Statement.{statement}
-use Rattle.words.proofs.run.fill.Tie as tie
+use Rattle.runs.proofs.Runs.{fill-more}
+use Rattle.runs.specs.Run.{repeated}
+use Rattle.runs.proofs.run.fill.Statement.{statement}
+use Rattle.runs.proofs.run.fill.Tie as tie
 
 abbrev Inv-loop : tie.InvT-loop
 Inv-loop s₀ at len w i₀ s i = (length s ≡ length s₀) × (i % 8 ≡ 0) × (i ≤ len) × (s ≡ sets s₀ at (repeated i w))

@@ -4,9 +4,9 @@ use mathlib.Core.List.{List, [], _∷_, _++_}
 use Prim.Native.Nat.{ℕ, zero, suc, _+_, _%_}
 use lib.Dec.{eqb}
 use lib.ListN.{getD}
 use Rattle.words.specs.Word.{bytesOf}
-use Rattle.words.specs.declared.run.Difference.{Difference}
-use Rattle.words.specs.declared.run.Difference.the-variants.{At, Nowhere}
+use Rattle.runs.specs.declared.run.Difference.{Difference}
+use Rattle.runs.specs.declared.run.Difference.the-variants.{At, Nowhere}
 
 -- W3 (a run that repeats a word): n bytes of the word w again and again, byte i is byte i mod 4 of w
 unfoldable pub repeated : ℕ → ℕ → List ℕ

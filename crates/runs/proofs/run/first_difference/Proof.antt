@@ -6,10 +6,10 @@ use native.Mathlib.Omega.{arith}
 use borrow.Author.Count.{below-more}
 use borrow.Author.Needs.{needs}
 use lib.ListN.{getD}
-use Rattle.words.proofs.Runs.{run-differs, run-same}
+use Rattle.runs.proofs.Runs.{run-differs, run-same}
 use Rattle.words.specs.Word.{bytesOf}
-use Rattle.words.proofs.run.first_difference.Statement.{statement}
-use Rattle.words.proofs.run.first_difference.Tie as tie
+use Rattle.runs.proofs.run.first_difference.Statement.{statement}
+use Rattle.runs.proofs.run.first_difference.Tie as tie
 
 abbrev Inv-loop : tie.InvT-loop
 Inv-loop s at len w pattern i₀ i = (pattern ≡ bytesOf 4 w) × (i ≤ len) × ((k : ℕ) → k < i → getD s (at + k) 0 ≡ getD (bytesOf 4 w) (k % 4) 0)

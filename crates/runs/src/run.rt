@@ -3,9 +3,9 @@ ghost use mathlib.Core.Path.{_≡_};
 ghost use Prim.Native.Nat.{_+_, _%_, _≤_};
 ghost use lib.ListN.{length};
 ghost use lib.Seq.{sets};
 ghost use Rattle.words.specs.Word.{part};
-ghost use Rattle.words.specs.Run.{repeated, difference};
-use crate::word;
+ghost use Rattle.runs.specs.Run.{repeated, difference};
+use words::word;
 
 // Where two runs of bytes differ first, counted from their start.
 pub enum Difference {
