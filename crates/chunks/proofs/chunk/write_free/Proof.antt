@@ -4,6 +4,9 @@ use Rattle.chunks.specs.Chunk.{freeChunk}
 use Rattle.chunks.proofs.chunk.write_free.Statement.{statement}
 use Rattle.chunks.proofs.chunk.write_free.Tie as tie
 
-pub write-free-spec : {M : Type 1} → statement M
+returns : tie.Need-returns
 unfolding freeChunk
-write-free-spec = tie.close (tie.spec (λ c κs. search needs) (λ c κs. search needs) (λ c. search needs) (λ c. rw (c .before .before .write .ensures, c .before .before .before .new .ensures)))
+returns c = let w = c .before .before in rw (w .write .ensures, w .before .new .ensures)
+
+pub write-free-spec : {M : Type 1} → statement M
+write-free-spec = tie.close (tie.spec (λ c κs. search needs) (λ c κs. search needs) (λ c. search needs) returns)

@@ -17,13 +17,22 @@ cast-encode c = let h = lawful (c .before .before) in omega arith
 slice-write-chunk : tie.Need-slice-write-chunk
 slice-write-chunk c = let h = lawful (c .before .before .before .before .before .before) in omega arith
 
-pub write-granted-spec : {M : Type 1} → statement M
+returns : tie.Need-returns
 unfolding grantedChunk
+returns c =
+    let w = c .before .before in
+    rw (w .before .before .enum-told .given .1, w .write .ensures, w .before .before .before .before .new .ensures)
+
+returns-2 : tie.Need-returns-2
+unfolding grantedChunk
+returns-2 c =
+    let w = c .before .before in
+    let g = w .before .before .before .before in
+    rw (g .grant .given .1, w .write2 .ensures, w .before .encode .ensures, g .before .before .new .ensures)
+
+pub write-granted-spec : {M : Type 1} → statement M
 write-granted-spec =
     tie.close
     (tie.spec
     (λ c κs. search needs) (λ c. search needs) (λ c κs. search needs) (λ c. search needs) cast-encode (λ c κs. search needs)
-    (λ c κs. search needs) (λ c. search needs) slice-write-chunk (λ c. search needs)
-    (λ c. let w = c .before .before in rw (w .before .before .enum-told .given .1, w .write .ensures, w .before .before .before .before .new .ensures))
-    (λ c. search needs)
-    (λ c. let w = c .before .before in let g = w .before .before .before .before in rw (g .grant .given .1, w .write2 .ensures, w .before .encode .ensures, g .before .before .new .ensures)))
+    (λ c κs. search needs) (λ c. search needs) slice-write-chunk (λ c. search needs) returns (λ c. search needs) returns-2)

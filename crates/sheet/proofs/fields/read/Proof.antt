@@ -4,14 +4,9 @@ use Rattle.sheet.specs.Fields.{sheetOf}
 use Rattle.sheet.proofs.fields.read.Statement.{statement}
 use Rattle.sheet.proofs.fields.read.Tie as tie
 
-pub read-spec : {M : Type 1} → statement M
+returns : tie.Need-returns
 unfolding sheetOf
-read-spec =
-    tie.close
-    (tie.spec
-    (λ c κs. search needs) (λ c κs. search needs) (λ c κs. search needs) (λ c κs. search needs) (λ c. search needs) (λ c κs. search needs)
-    (λ c. search needs) (λ c κs. search needs) (λ c. search needs) (λ c κs. search needs) (λ c κs. search needs) (λ c. search needs)
-    (λ c.
+returns c =
     let l = c .before in
     let s = l .before in
     let a = s .before .before .before in
@@ -24,4 +19,11 @@ read-spec =
       s .short-body3 .ensures,
       l .long-body4 .ensures,
       c .short-body4 .ensures,
-    )))
+    )
+
+pub read-spec : {M : Type 1} → statement M
+read-spec =
+    tie.close
+    (tie.spec
+    (λ c κs. search needs) (λ c κs. search needs) (λ c κs. search needs) (λ c κs. search needs) (λ c. search needs) (λ c κs. search needs)
+    (λ c. search needs) (λ c κs. search needs) (λ c. search needs) (λ c κs. search needs) (λ c κs. search needs) (λ c. search needs) returns)
