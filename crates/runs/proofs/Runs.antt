@@ -1,9 +1,9 @@
 -- The laws of a word again and again, of the first place at which two lists differ, and of runs that are filled or compared from the front. Assumes nothing.
 use mathlib.Core.Path.{_≡_, refl, sym, ap, _∙_}
 use mathlib.Core.Bool.{Bool, true, false, cond}
-use mathlib.Core.List.{List, [], _∷_, _++_, append-assoc}
-use Prim.Native.Nat.{ℕ, zero, suc, _+_, _%_, _≤_, _<_}
-use native.Mathlib.Nat.{add-zero, zero-add}
+use mathlib.Core.List.{List, [], _∷_, _++_, append-assoc, append-nil}
+use Prim.Native.Nat.{ℕ, zero, suc, _+_, _-_, _%_, _≤_, _<_}
+use native.Mathlib.Nat.{add-zero, zero-add, add-suc}
 use native.Mathlib.Decide.{ℕ-discrete}
 use native.Mathlib.Omega.{arith}
 use borrow.Author.Tests.{eq-eqb, ne-eqb}
@@ -14,7 +14,7 @@ use Rattle.words.specs.Word.{part, bytesOf}
 use Rattle.runs.specs.Run.{repeated, differenceFrom, difference}
 use Rattle.runs.specs.declared.run.Difference.{Difference}
 use Rattle.runs.specs.declared.run.Difference.the-variants.{At, Nowhere}
-use Rattle.words.proofs.Parts.{length-part, getD-part, sets-then}
+use Rattle.words.proofs.Parts.{length-part, getD-part, part-two, sets-then}
 
 -- ---- a word again and again
 
@@ -48,20 +48,26 @@ part-repeated n k w h =
     ∙ getD-repeated n w i (omega arith)
     ∙ sym (getD-repeated k w i q))
 
--- one word more
-pub repeated-more : (n w : ℕ) → n % 4 ≡ 0 → repeated (n + 4) w ≡ repeated n w ++ bytesOf 4 w
-unfolding repeated bytesOf
-repeated-more n w h =
-    let e : n + 4 ≡ suc (suc (suc (suc n))) = omega arith in
-    let a : suc n % 4 ≡ 1 = omega arith in
-    let b : suc (suc n) % 4 ≡ 2 = omega arith in
-    let c : suc (suc (suc n)) % 4 ≡ 3 = omega arith in
-    rw (e, h, a, b, c) (simp append-assoc)
-
--- a word once
-pub repeated-once : (w : ℕ) → repeated 4 w ≡ bytesOf 4 w
+-- a run behind whole words
+pub repeated-add : (i n w : ℕ) → i % 4 ≡ 0 → repeated (i + n) w ≡ repeated i w ++ repeated n w
 unfolding repeated
-repeated-once w = repeated-more 0 w refl
+repeated-add i zero w h = rw (add-zero i, append-nil)
+repeated-add i (suc n) w h =
+    let e : i + suc n ≡ suc (i + n) = omega arith in
+    let m : (i + n) % 4 ≡ n % 4 = omega arith in
+    rw (e, m, repeated-add i n w h) (append-assoc (repeated i w) (repeated n w) (getD (bytesOf 4 w) (n % 4) 0 ∷ []))
+
+-- a word once, and one word more
+pub repeated-once : (w : ℕ) → repeated 4 w ≡ bytesOf 4 w
+unfolding repeated bytesOf
+repeated-once w = refl
+
+pub repeated-more : (n w : ℕ) → n % 4 ≡ 0 → repeated (n + 4) w ≡ repeated n w ++ bytesOf 4 w
+repeated-more n w h = repeated-add n 4 w h ∙ ap (λ (r : List ℕ). repeated n w ++ r) (repeated-once w)
+
+-- two words
+pub repeated-twice : (w : ℕ) → repeated 8 w ≡ bytesOf 4 w ++ bytesOf 4 w
+repeated-twice w = repeated-more 4 w refl ∙ ap (λ (r : List ℕ). r ++ bytesOf 4 w) (repeated-once w)
 
 -- ---- the first place at which two lists differ
 
@@ -98,16 +104,69 @@ within k (x ∷ xs) (y ∷ ys) o e = go (eqb x y) (within (suc k) xs ys o) e
 pub differs-within : (xs ys : List ℕ) (o : ℕ) → difference xs ys ≡ At o → o < length xs
 differs-within xs ys o e = omega (arith, within 0 xs ys o e)
 
+-- lists of one length that differ nowhere are the same
+same-from : (k : ℕ) (xs ys : List ℕ) → length xs ≡ length ys → differenceFrom k xs ys ≡ Nowhere → xs ≡ ys
+unfolding differenceFrom
+same-from k [] [] e d = refl
+same-from k [] (y ∷ ys) e d = absurd (omega arith)
+same-from k (x ∷ xs) [] e d = absurd (omega arith)
+same-from k (x ∷ xs) (y ∷ ys) e d = go (ℕ-discrete x y) (same-from (suc k) xs ys (omega arith))
+  where
+    go : Dec (x ≡ y) → (differenceFrom (suc k) xs ys ≡ Nowhere → xs ≡ ys) → x ∷ xs ≡ y ∷ ys
+    go (yes q) ih = rw (q, ih (sym (ap (λ (b : Bool). cond b (differenceFrom (suc k) xs ys) (At k)) (eq-eqb x y q)) ∙ d))
+    go (no q) ih =
+        let f : At k ≡ Nowhere = sym (ap (λ (b : Bool). cond b (differenceFrom (suc k) xs ys) (At k)) (ne-eqb x y q)) ∙ d in
+        absurd (let z : _≡_ {A = ℕ} 0 1 = cc in omega arith)
+
+-- a first place among the first elements is the first place of all
+differs-front : (k : ℕ) (xs ys zs us : List ℕ) (o : ℕ) → length xs ≡ length ys → differenceFrom k xs ys ≡ At o → differenceFrom k (xs ++ zs) (ys ++ us) ≡ At o
+unfolding differenceFrom
+differs-front k [] ys zs us o e d = absurd (let z : _≡_ {A = ℕ} 0 1 = cc in omega arith)
+differs-front k (x ∷ xs) [] zs us o e d = absurd (omega arith)
+differs-front k (x ∷ xs) (y ∷ ys) zs us o e d = go (eqb x y) (differs-front (suc k) xs ys zs us o (omega arith)) d
+  where
+    go : (b : Bool) → (differenceFrom (suc k) xs ys ≡ At o → differenceFrom (suc k) (xs ++ zs) (ys ++ us) ≡ At o)
+        → cond b (differenceFrom (suc k) xs ys) (At k) ≡ At o → cond b (differenceFrom (suc k) (xs ++ zs) (ys ++ us)) (At k) ≡ At o
+    go true ih f = ih f
+    go false ih f = f
+
+-- elements that are the same are passed over
+differs-behind : (k : ℕ) (xs zs us : List ℕ) → differenceFrom k (xs ++ zs) (xs ++ us) ≡ differenceFrom (length xs + k) zs us
+unfolding differenceFrom
+differs-behind k [] zs us = rw (zero-add k)
+differs-behind k (x ∷ xs) zs us =
+    let e : length xs + suc k ≡ suc (length xs) + k = omega arith in
+    rw (eq-eqb x x refl, differs-behind (suc k) xs zs us, e)
+
+-- a place counted from k is one counted from 0 and k more
+abbrev pub later : ℕ → Difference → Difference
+later k (At o) = At (k + o)
+later k Nowhere = Nowhere
+
+differs-later : (k j : ℕ) (xs ys : List ℕ) → differenceFrom (k + j) xs ys ≡ later k (differenceFrom j xs ys)
+unfolding differenceFrom
+differs-later k j [] ys = refl
+differs-later k j (x ∷ xs) [] = refl
+differs-later k j (x ∷ xs) (y ∷ ys) = go (eqb x y) (rw (← add-suc k j) (differs-later k (suc j) xs ys))
+  where
+    go : (b : Bool) → differenceFrom (suc (k + j)) xs ys ≡ later k (differenceFrom (suc j) xs ys)
+        → cond b (differenceFrom (suc (k + j)) xs ys) (At (k + j)) ≡ later k (cond b (differenceFrom (suc j) xs ys) (At j))
+    go true ih = ih
+    go false ih = refl
+
 pub same-nowhere : (l : List ℕ) → difference l l ≡ Nowhere
 same-nowhere l = differs-nowhere 0 l l refl (λ i h. refl)
 
+pub nowhere-from : {xs ys : List ℕ} → xs ≡ ys → difference xs ys ≡ Nowhere
+nowhere-from {xs} {ys} e = rw e (same-nowhere ys)
+
 -- ---- runs that are filled or compared from the front
 
--- one word more of a run is filled
-pub fill-more : (l s t : List ℕ) (at i p e w : ℕ) → s ≡ sets l at (repeated i w) → t ≡ sets s p (bytesOf 4 w) → at + i ≡ p → i + 4 ≡ e → i % 4 ≡ 0
-    → t ≡ sets l at (repeated e w)
-fill-more l s t at i p e w es et ep ee h =
-    rw (et, es, ← ee, repeated-more i w h) (sets-then l at i p (repeated i w) (bytesOf 4 w) (length-repeated i w) ep)
+-- n bytes more of a run are filled
+pub fill-more : (l s t vs : List ℕ) (at i n p e w : ℕ) → s ≡ sets l at (repeated i w) → t ≡ sets s p vs → vs ≡ repeated n w
+    → at + i ≡ p → i + n ≡ e → i % 4 ≡ 0 → t ≡ sets l at (repeated e w)
+fill-more l s t vs at i n p e w es et ev ep ee h =
+    rw (et, es, ev, ← ee, repeated-add i n w h) (sets-then l at i p (repeated i w) (repeated n w) (length-repeated i w) ep)
 
 -- the bytes of a run are those of a repeated word up to i
 abbrev pub SameTo : List ℕ → ℕ → ℕ → ℕ → Type 0
@@ -129,6 +188,36 @@ module _ (s : List ℕ) (at len w : ℕ) (fits : at + len ≤ length s) where
   run-same same =
       differs-nowhere 0 (part s at len) (repeated len w) (length-part s at len fits ∙ sym (length-repeated len w))
       (λ k g. both k (omega (arith, length-part s at len fits)) (same k (omega (arith, length-part s at len fits))))
+
+  -- the run is cut at i, behind whole words
+  cut : (i : ℕ) → i ≤ len → part s at len ≡ part s at i ++ part s (at + i) (len - i)
+  cut i h = let e : len ≡ i + (len - i) = omega arith in ap (part s at) e ∙ sym (part-two s at i (len - i))
+
+  cut-repeated : (i : ℕ) → i ≤ len → i % 4 ≡ 0 → repeated len w ≡ repeated i w ++ repeated (len - i) w
+  cut-repeated i h m = let e : len ≡ i + (len - i) = omega arith in ap (λ (n : ℕ). repeated n w) e ∙ repeated-add i (len - i) w m
+
+  -- its first i bytes were compared with vs, which repeats the word: what is found there is the run's first difference
+  module _ (i : ℕ) (vs : List ℕ) (r : Difference) (h : i ≤ len) (e : r ≡ difference (part s at i) vs) (repeats : vs ≡ repeated i w) where
+    pub run-front : (o : ℕ) → i % 4 ≡ 0 → r ≡ At o → At o ≡ difference (part s at len) (repeated len w)
+    run-front o m d =
+        let f : difference (part s at i) (repeated i w) ≡ At o = ap (difference (part s at i)) (sym repeats) ∙ sym e ∙ d in
+        rw (cut i h, cut-repeated i h m)
+        (sym (differs-front 0 (part s at i) (repeated i w) _ _ o (length-part s at i (omega arith) ∙ sym (length-repeated i w)) f))
+
+    pub front-same : r ≡ Nowhere → part s at i ≡ repeated i w
+    front-same d =
+        same-from 0 (part s at i) (repeated i w) (length-part s at i (omega arith) ∙ sym (length-repeated i w))
+        (ap (difference (part s at i)) (sym repeats) ∙ sym e ∙ d)
+
+  -- its first i bytes repeat the word: what is found behind them is the run's first difference
+  pub run-behind : (i : ℕ) (r d : Difference) → i ≤ len → i % 4 ≡ 0 → part s at i ≡ repeated i w
+      → r ≡ difference (part s (at + i) (len - i)) (repeated (len - i) w) → r ≡ d → later i d ≡ difference (part s at len) (repeated len w)
+  run-behind i r d h m e er ed =
+      rw (cut i h, cut-repeated i h m, e)
+      (ap (later i) (sym ed ∙ er)
+      ∙ sym (differs-later i 0 (part s (at + i) (len - i)) (repeated (len - i) w))
+      ∙ ap (λ (n : ℕ). differenceFrom (n + 0) (part s (at + i) (len - i)) (repeated (len - i) w)) (sym (length-repeated i w))
+      ∙ sym (differs-behind 0 (repeated i w) (part s (at + i) (len - i)) (repeated (len - i) w)))
 
   -- a place at which the run differs is a place of the run
   pub run-within : (o : ℕ) (d : Difference) → d ≡ difference (part s at len) (repeated len w) → d ≡ At o → o < len

@@ -1,10 +1,12 @@
 -- Runs of bytes that repeat a word, and the first place at which two runs differ. Assumes nothing.
+use mathlib.Core.Path.{_≡_}
 use mathlib.Core.Bool.{cond}
 use mathlib.Core.List.{List, [], _∷_, _++_}
-use Prim.Native.Nat.{ℕ, zero, suc, _+_, _%_}
+use Prim.Native.Nat.{ℕ, zero, suc, _+_, _%_, _≤_}
 use lib.Dec.{eqb}
 use lib.ListN.{getD}
-use Rattle.words.specs.Word.{bytesOf}
+use Rattle.words.specs.Word.{part, bytesOf}
+use Rattle.runs.specs.Native.{lowBytes}
 use Rattle.runs.specs.declared.run.Difference.{Difference}
 use Rattle.runs.specs.declared.run.Difference.the-variants.{At, Nowhere}
 
@@ -22,3 +24,16 @@ differenceFrom k (x ∷ xs) (y ∷ ys) = cond (eqb x y) (differenceFrom (suc k) 
 -- J7 (the first byte that differs): the first place at which `xs` and `ys` differ
 abbrev pub difference : List ℕ → List ℕ → Difference
 difference xs ys = differenceFrom 0 xs ys
+
+-- What follows is said of the code's own steps and stands in no rule.
+
+-- the first i bytes, whole eights, of a run of `len` bytes repeat the word w
+pub record Alike (l : List ℕ) (at len w i : ℕ) : Type 0 where
+  pub within : i ≤ len
+  pub eights : i % 8 ≡ 0
+  pub same : part l at i ≡ repeated i w
+
+-- two eights of bytes, 32 apart, are those of v
+pub record BothAlike (l : List ℕ) (at v : ℕ) : Type 0 where
+  pub first : part l at 8 ≡ lowBytes 8 v
+  pub second : part l (at + 32) 8 ≡ lowBytes 8 v

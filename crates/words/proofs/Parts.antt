@@ -10,7 +10,7 @@ use native.Mathlib.Numerals.{add-one}
 use native.Mathlib.Omega.{arith}
 use lib.ListN.{length, take, drop, getD, set, length-take, length-drop, length-append, length-set, take-append-drop, drop-of-length-le}
 use lib.Seq.{sets, sets-eq, length-sets, take-take, take-length, drop-length, drop-drop, drop-append-le, drop-append-add, take-append-le, take-append-seam}
-use lib.Seq.{take-at, drop-at, length-take-le, drop-set-add, take-set-le, take-set-lt, drop-set-lt, drop-cons, getD-take, getD-drop, set-append-left}
+use lib.Seq.{take-add, take-at, drop-at, length-take-le, drop-set-add, take-set-le, take-set-lt, drop-set-lt, drop-cons, getD-take, getD-drop, set-append-left}
 use Rattle.words.specs.Word.{part, flat}
 
 -- ---- a part of a list
@@ -59,6 +59,11 @@ pub part-right : (xs ys : List ℕ) (at o k : ℕ) → length xs + o ≡ at → 
 unfolding part
 part-right xs ys at o k e =
     subst (λ (x : ℕ). part (xs ++ ys) x k ≡ part ys o k) e (ap (take k) (drop-append-add xs ys o))
+
+-- two parts one after the other
+pub part-two : (l : List ℕ) (at j k : ℕ) → part l at j ++ part l (at + j) k ≡ part l at (j + k)
+unfolding part
+part-two l at j k = ap (λ (r : List ℕ). take j (drop at l) ++ take k r) (sym (drop-drop j at l)) ∙ sym (take-add j k (drop at l))
 
 pub part-all : (l : List ℕ) (n : ℕ) → length l ≡ n → part l 0 n ≡ l
 unfolding part

@@ -1,10 +1,12 @@
-//! Times the verified library and the second program on the same inputs in the same
-//! run, prints the tables, and fails where a requirement does not hold.
+//! Times the verified library beside the second program and plain C, on the same inputs
+//! in the same run, prints the tables, and fails where a requirement does not hold.
 
 mod calls;
+mod fill;
 mod growth;
 mod images;
 mod limits;
+mod plain;
 mod reader;
 mod requirement;
 mod table;
@@ -34,6 +36,34 @@ that differs. The scan reads a run as long as the heap which is that fill throug
 the heap's own redzones and tags would stop it.
 ";
 
+const PLAIN: &str = "
+### Inspect beside plain C
+
+The same call as a C programmer would write it in place of the library's
+(`rust/timed/plain/inspect.c`, compiled by gcc with -O3). It compares a free buffer with a
+page of the free fill by `memcmp`. Both fill the same rows.
+";
+
+const FILL: &str = "
+### The fill test alone
+
+The library compares a buffer with its fill, and fills it, by words of eight bytes. Here
+both are called by themselves, beside the form that compares one byte after the other
+and the one that stores single words. Many calls are made at a time: to reach a single
+one takes about as long as the shortest do.
+
+Nothing differs; `memcmp` is with an equal copy:
+";
+
+const EARLY: &str = "
+One of the first eight bytes differs; by eights to byte by byte for each place, and the
+times for the place where that is highest:
+";
+
+const FILLING: &str = "
+The fill:
+";
+
 const GROWTH: &str = "
 ### Growth of inspect
 ";
@@ -49,7 +79,8 @@ const CALLS: &str = "
 const REQUIREMENTS: &str = "
 ### Requirements
 
-Each is a ratio of two medians of this run. \"No slower\" is 1.00, and 0.05 for noise.
+Each is the median of the turns' ratios in this run. \"No slower\" is 1.00, and 0.05 for
+noise.
 
 | requirement | at most | worst | where | cases that keep it | |
 |---|--:|--:|---|--:|---|";
@@ -59,11 +90,20 @@ fn main() -> ExitCode {
     println!(
         "Times are nanoseconds of one call, the median of {SAMPLES} samples. A sample is as many"
     );
-    println!("calls as take {least} µs or more, and the calls of one row are sampled in turns.");
+    println!("calls as take {least} µs or more. The calls of one row are sampled in turns, and a");
+    println!("ratio is the median of the turns' ratios.");
     println!("{SIDES}");
 
     println!("{READER}");
     let mut requirements = Vec::from(reader::time_reader());
+    println!("{PLAIN}");
+    requirements.push(plain::time_plain());
+    println!("{FILL}");
+    requirements.extend(fill::time_equal());
+    println!("{EARLY}");
+    requirements.push(fill::time_early());
+    println!("{FILLING}");
+    requirements.push(fill::time_fill());
     println!("{GROWTH}");
     requirements.push(growth::time_growth());
     println!("{LATEST}");

@@ -20,16 +20,22 @@ impl Times {
         quantile(&self.0, 2)
     }
 
-    /// How many times as long this call took as another.
+    /// How many times as long this call took as another: the median of the turns' ratios.
+    /// What slows the machine for a while slows both calls of a turn, and leaves their
+    /// ratio about as it is.
     pub fn ratio(&self, other: &Times) -> f64 {
-        self.median() / other.median()
+        quantile(&self.ratios(other), 2)
     }
 
-    /// Between which two numbers the middle half of the ratios lies, where each sample
-    /// is set against the other call's sample of the same round.
+    /// Between which two numbers the middle half of the turns' ratios lies.
     pub fn spread(&self, other: &Times) -> (f64, f64) {
-        let ratios: Vec<f64> = self.0.iter().zip(&other.0).map(|(a, b)| a / b).collect();
+        let ratios = self.ratios(other);
         (quantile(&ratios, 1), quantile(&ratios, 3))
+    }
+
+    /// Each sample against the other call's sample of the same turn.
+    fn ratios(&self, other: &Times) -> Vec<f64> {
+        self.0.iter().zip(&other.0).map(|(a, b)| a / b).collect()
     }
 }
 
@@ -40,14 +46,14 @@ fn quantile(numbers: &[f64], quarter: usize) -> f64 {
     sorted[(sorted.len() - 1) * quarter / 4]
 }
 
-/// Times calls in turns, one sample of each in a round, so that whatever slows the
+/// Times calls in turns, one sample of each in a turn, so that whatever slows the
 /// machine for a while slows them all.
 pub fn race<const N: usize>(mut calls: [Call; N]) -> [Times; N] {
-    let turns = calls.each_mut().map(turns_in_a_sample);
+    let repeats = calls.each_mut().map(repeats_in_a_sample);
     let mut times = [const { Vec::new() }; N];
     for _ in 0..SAMPLES {
-        for ((call, &turns), times) in calls.iter_mut().zip(&turns).zip(&mut times) {
-            times.push(sample(call, turns));
+        for ((call, &repeats), times) in calls.iter_mut().zip(&repeats).zip(&mut times) {
+            times.push(sample(call, repeats));
         }
     }
     times.map(Times)
@@ -55,23 +61,23 @@ pub fn race<const N: usize>(mut calls: [Call; N]) -> [Times; N] {
 
 /// How often a call is made in a sample. The shortest of three tries counts: a try that
 /// was interrupted says nothing.
-fn turns_in_a_sample(call: &mut Call) -> usize {
-    let mut turns = 1;
+fn repeats_in_a_sample(call: &mut Call) -> usize {
+    let mut repeats = 1;
     loop {
-        let tries = [(); 3].map(|()| sample(call, turns));
+        let tries = [(); 3].map(|()| sample(call, repeats));
         let shortest = tries.into_iter().fold(f64::INFINITY, f64::min);
-        if shortest * turns as f64 >= LEAST_SAMPLE {
-            return turns;
+        if shortest * repeats as f64 >= LEAST_SAMPLE {
+            return repeats;
         }
-        turns *= 2;
+        repeats *= 2;
     }
 }
 
 /// The nanoseconds of one call, by so many of them.
-fn sample(call: &mut Call, turns: usize) -> f64 {
+fn sample(call: &mut Call, repeats: usize) -> f64 {
     let start = Instant::now();
-    for _ in 0..turns {
+    for _ in 0..repeats {
         call();
     }
-    start.elapsed().as_nanos() as f64 / turns as f64
+    start.elapsed().as_nanos() as f64 / repeats as f64
 }

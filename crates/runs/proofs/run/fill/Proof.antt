@@ -5,16 +5,16 @@ use native.Mathlib.Omega.{arith}
 use borrow.Author.Needs.{needs}
 use lib.Seq.{sets}
 use lib.ListN.{length}
-use Rattle.runs.proofs.Runs.{fill-more}
 use Rattle.runs.specs.Run.{repeated}
+use Rattle.runs.proofs.Runs.{fill-more}
 use Rattle.runs.proofs.run.fill.Statement.{statement}
 use Rattle.runs.proofs.run.fill.Tie as tie
 
 abbrev Inv-loop : tie.InvT-loop
-Inv-loop s₀ at len w i₀ s i = (length s ≡ length s₀) × (i % 8 ≡ 0) × (i ≤ len) × (s ≡ sets s₀ at (repeated i w))
+Inv-loop s₀ at len w v i₀ s i = (length s ≡ length s₀) × (i % 8 ≡ 0) × (i ≤ len) × (s ≡ sets s₀ at (repeated i w))
 
 abbrev μ-loop : tie.MeasureT-loop
-μ-loop s₀ at len w i₀ s i = len - i
+μ-loop s₀ at len w v i₀ s i = len - i
 
 loop-holds : tie.Need-loop-holds Inv-loop μ-loop
 unfolding repeated
@@ -22,18 +22,16 @@ loop-holds c = search needs
 
 loop-again : tie.Need-loop-again Inv-loop μ-loop
 loop-again c =
-    let w = c .before .before in
-    let v = w .before .before .before .before in
-    let p = v .before .before .before in
-    let once = fill-more _ _ _ _ _ _ _ _ (p .loop .inv .3) (v .write-u32 .ensures) refl refl (omega arith) in
-    (search needs, search needs, search needs, fill-more _ _ _ _ _ _ _ _ once (w .write-u322 .ensures) (omega arith) (omega arith) (omega arith))
+    let p = c .before .before .before .before .before in
+    let more = fill-more _ _ _ _ _ _ 8 _ _ _ (p .loop .inv .3) (c .before .before .store8 .ensures) (p .before .twice .ensures) refl refl (omega arith) in
+    (search needs, search needs, search needs, more)
 
 returns : tie.Need-returns Inv-loop μ-loop
-returns c = let e : c .before .loop .i ≡ c .before .before .before .args .len = omega arith in rw (← e) (c .before .loop .inv .3)
+returns c = let e : c .before .loop .i ≡ c .before .before .before .before .args .len = omega arith in rw (← e) (c .before .loop .inv .3)
 
 pub fill-spec : {M : Type 1} → statement M
 fill-spec =
     tie.close
     (tie.spec
-    Inv-loop μ-loop loop-holds (λ c. search needs) (λ c κs. search needs) (λ c. search needs) (λ c. search needs) (λ c κs. search needs)
-    (λ c. search needs) (λ c. search needs) loop-again (λ c. search needs) returns)
+    Inv-loop μ-loop (λ c κs. search needs) loop-holds (λ c. search needs) (λ c κs. search needs) (λ c. search needs) (λ c. search needs) loop-again
+    (λ c. search needs) returns)

@@ -1,40 +1,44 @@
--- The loop's invariant: no byte before i differs. Assumes nothing.
-use mathlib.Core.List.{List}
-use mathlib.Core.Path.{sym, ap, _∙_, _≡_}
-use Prim.Native.Nat.{ℕ, _≤_, _<_, _-_, _+_, _%_}
+-- The run differs among its first eight bytes, or it is alike up to i and what differs is the rest. Assumes nothing.
+use mathlib.Core.Path.{refl}
+use Prim.Native.Nat.{_<_}
 use native.Mathlib.Omega.{arith}
-use borrow.Author.Count.{below-more}
 use borrow.Author.Needs.{needs}
-use lib.ListN.{getD}
-use Rattle.runs.proofs.Runs.{run-differs, run-same}
-use Rattle.words.specs.Word.{bytesOf}
+use Rattle.runs.proofs.Runs.{run-front, front-same, run-behind, run-within}
 use Rattle.runs.proofs.run.first_difference.Statement.{statement}
 use Rattle.runs.proofs.run.first_difference.Tie as tie
 
-abbrev Inv-loop : tie.InvT-loop
-Inv-loop s at len w pattern i₀ i = (pattern ≡ bytesOf 4 w) × (i ≤ len) × ((k : ℕ) → k < i → getD s (at + k) 0 ≡ getD (bytesOf 4 w) (k % 4) 0)
-
-abbrev μ-loop : tie.MeasureT-loop
-μ-loop s at len w pattern i₀ i = len - i
-
-returns : tie.Need-returns Inv-loop μ-loop
-returns c =
-    let l = c .before .before .before .loop in
-    sym (run-differs _ _ _ _ (omega arith) _ (omega arith) (l .inv .2) (λ e. c .if1 .taken (e ∙ ap (λ (x : List ℕ). getD x (l .i % 4) 0) (sym (l .inv .0)))))
-
-loop-again : tie.Need-loop-again Inv-loop μ-loop
-loop-again c =
-    let l = c .before .before .before .loop in
-    (search needs, search needs, below-more _ _ (l .inv .2) (c .if1 .left ∙ ap (λ (x : List ℕ). getD x (l .i % 4) 0) (l .inv .0)))
-
-returns-2 : tie.Need-returns-2 Inv-loop μ-loop
+returns-2 : tie.Need-returns-2
 returns-2 c =
-    let e : c .before .loop .i ≡ c .before .before .before .before .args .len = omega arith in
-    sym (run-same _ _ _ _ (omega arith) (λ k h. c .before .loop .inv .2 k (omega arith)))
+    let d = c .before .before .before in
+    run-front _ _ _ _ (omega arith) 8 _ _ (omega arith) (d .difference-at .ensures) (d .before .twice .ensures) _ refl (c .before .head .given .1)
+
+alike-requires : tie.Need-alike-requires
+alike-requires c κs =
+    let d = c .before .before in
+    let len = d .before .before .before .before .args .len in
+    let same = front-same _ _ len _ (omega arith) 8 _ _ (omega arith) (d .difference-at .ensures) (d .before .twice .ensures) (c .enum-told .given .1) in
+    (search needs, record { within = omega arith; eights = refl; same = same })
+
+add-t15 : tie.Need-add-t15
+add-t15 c =
+    let d = c .before .before .before in
+    omega (arith, run-within _ _ _ _ (omega arith) _ _ (d .difference-by-bytes2 .ensures) (c .before .rest .given .1))
+
+returns-3 : tie.Need-returns-3
+returns-3 c =
+    let d = c .before .before .before in
+    let a = d .before .alike .ensures in
+    run-behind _ _ _ _ (omega arith) _ _ _ (a .within) (omega arith) (a .same) (d .difference-by-bytes2 .ensures) (c .before .rest .given .1)
+
+returns-4 : tie.Need-returns-4
+returns-4 c =
+    let d = c .before .before in
+    let a = d .before .alike .ensures in
+    run-behind _ _ _ _ (omega arith) _ _ _ (a .within) (omega arith) (a .same) (d .difference-by-bytes2 .ensures) (c .enum-told2 .given .1)
 
 pub first-difference-spec : {M : Type 1} → statement M
 first-difference-spec =
     tie.close
     (tie.spec
-    Inv-loop μ-loop (λ c κs. search needs) (λ c. search needs) (λ c. search needs) (λ c. search needs) (λ c. search needs) returns
-    (λ c. search needs) (λ c. search needs) loop-again returns-2)
+    (λ c κs. search needs) (λ c. search needs) (λ c κs. search needs) (λ c κs. search needs) (λ c. search needs) returns-2 (λ c. search needs) alike-requires
+    (λ c. search needs) (λ c. search needs) (λ c κs. search needs) (λ c. search needs) add-t15 (λ c. search needs) returns-3 returns-4)

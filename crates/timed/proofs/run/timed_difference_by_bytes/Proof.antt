@@ -1,0 +1,11 @@
+-- The run is the whole slice. Assumes nothing.
+use borrow.Author.Needs.{needs}
+use Rattle.timed.proofs.Filled.{whole-place}
+use Rattle.timed.proofs.run.timed_difference_by_bytes.Statement.{statement}
+use Rattle.timed.proofs.run.timed_difference_by_bytes.Tie as tie
+
+returns : tie.Need-returns
+returns c = whole-place _ _ _ _ (c .before .difference-by-bytes .ensures) (c .place .ensures)
+
+pub timed-difference-by-bytes-spec : {M : Type 1} → statement M
+timed-difference-by-bytes-spec = tie.close (tie.spec (λ c κs. search needs) (λ c κs. search needs) returns)

@@ -1,0 +1,23 @@
+//! The C functions. Each area is a pointer, which is never null, and then its length in
+//! elements.
+
+extern "C" {
+    pub fn plain_inspect(
+        sheet: *const u8,
+        sheet_length: usize,
+        heap: *const u8,
+        heap_length: usize,
+        records: *const u8,
+        records_length: usize,
+        rows: *mut u32,
+        rows_length: usize,
+    ) -> u64;
+
+    pub fn timed_first_difference(s: *const u8, len: usize, word: u32) -> u64;
+
+    pub fn timed_difference_by_bytes(s: *const u8, len: usize, word: u32) -> u64;
+
+    pub fn timed_fill(s: *mut u8, len: usize, word: u32) -> bool;
+
+    pub fn timed_fill_by_words(s: *mut u8, len: usize, word: u32) -> bool;
+}
