@@ -1,12 +1,13 @@
-//! Inspect, on hurt images and on every neighbour of the dump.
+//! Inspect, on hurt images, on every neighbour of the dump, and with every byte of a free
+//! chunk hurt.
 
 use std::fmt::Display;
 
 use combgallop::{inspect, inspect_answer};
 use differential::hurt::HURTS;
 use differential::samples::dump;
-use differential::{put_word, sound_image, Case, Image, Sequence};
-use reference::{chain, Finding, Refusal};
+use differential::{put_word, sound_image, Case, Image, Sequence, Shape};
+use reference::{chain, Finding, Refusal, Verdict};
 
 use crate::counts::{Counts, Met, ENDINGS, EXTREMES, READ_REFUSALS, VERDICTS};
 use crate::expected::{expected_answer, expected_finding, expected_refusal, put_rows};
@@ -159,4 +160,73 @@ fn every_small_size_code() {
     }
     let wanted = [Met::Verdict(2), Met::Verdict(27), Met::Verdict(28)];
     counts.finish("inspect, every small size code", SEED, &wanted);
+}
+
+/// Buffer sizes about every end of a step that the fill is compared in.
+const FILL_SIZES: [usize; 14] = [
+    8, 16, 24, 64, 72, 80, 112, 128, 136, 144, 192, 200, 208, 4096,
+];
+
+const FILL_PLACES: [Met; 5] = [
+    Met::Drawn("fill, its first eight bytes"),
+    Met::Drawn("fill, behind them"),
+    Met::Drawn("fill, its last eight bytes"),
+    Met::Drawn("redzone, R0"),
+    Met::Drawn("redzone, R1"),
+];
+
+/// Each byte of a free chunk before its tag is hurt, by itself and with one of those behind
+/// it: the first that is wrong is named.
+#[test]
+fn every_byte_of_a_free_chunk() {
+    let mut sequence = Sequence::new(SEED);
+    let mut counts = Counts::default();
+    for size in FILL_SIZES {
+        let shape = Shape {
+            cache: 0x7003_9928,
+            heap_base: 0x70a9_a000,
+            record_base: 0x70ae_3000,
+            size,
+            count: 3,
+        };
+        let mut image = Image::laid_out(shape, [0; 5]);
+        for offset in 0..size + 8 {
+            compare_hurts(&mut image, offset, &mut sequence, &mut counts);
+        }
+    }
+    let wanted = [&FILL_PLACES[..], &[Met::Verdict(25), Met::Verdict(26)]].concat();
+    counts.finish("inspect, every byte of a free chunk", SEED, &wanted);
+}
+
+/// The middle buffer's byte is hurt, and then another behind it; both are then as they
+/// were.
+fn compare_hurts(image: &mut Image, offset: usize, sequence: &mut Sequence, counts: &mut Counts) {
+    let size = image.shape.size;
+    let start = image.shape.chunk_size();
+    let behind = offset + 1 + sequence.below(size + 8 - offset);
+    let expected = if offset < size {
+        Verdict::FillDiffers(offset as u32)
+    } else {
+        Verdict::RedzoneDiffers(offset as u32)
+    };
+    let sound = image.heap.clone();
+    for at in [offset, behind.min(size + 7)] {
+        image.heap[start + at] = sound[start + at] ^ sequence.pick(&[0x01, 0x80, 0xff]);
+        let found = compare(image, 9, sequence, image).expect("a lawful image");
+        assert_eq!(found[1].verdict, expected, "byte {offset} of {size}");
+        note(counts, image, Ok(found));
+    }
+    image.heap = sound;
+    counts.note(place_of(offset, size));
+}
+
+fn place_of(offset: usize, size: usize) -> Met {
+    let [first, behind, last, r0, r1] = FILL_PLACES;
+    match offset {
+        _ if offset >= size + 4 => r1,
+        _ if offset >= size => r0,
+        0..=7 => first,
+        _ if offset + 8 >= size => last,
+        _ => behind,
+    }
 }
