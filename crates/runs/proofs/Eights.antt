@@ -1,9 +1,9 @@
 -- The laws of bytes that are compared eight at a time. Assumes nothing.
 use mathlib.Core.Path.{_≡_, refl, sym, ap, _∙_}
-use mathlib.Core.Bool.{Bool, true, false, cond}
-use mathlib.Core.List.{List, [], _∷_, _++_}
-use Prim.Native.Nat.{ℕ, zero, suc, _+_, _*_, _/_, _%_, _^_, _≤_, _<_}
-use native.Mathlib.Nat.{add-zero, zero-add, suc-add, add-suc, pow-suc, pow-succ', one-le-pow, div-one, div-div-eq-div-mul}
+use mathlib.Core.Bool.{cond}
+use mathlib.Core.List.{List, _++_}
+use Prim.Native.Nat.{ℕ, zero, suc, _+_, _*_, _/_, _%_, _^_, _<_}
+use native.Mathlib.Nat.{add-zero, zero-add, suc-add, pow-suc, pow-succ', one-le-pow, div-one, div-div-eq-div-mul}
 use native.Mathlib.Decide.{ℕ-discrete}
 use native.Mathlib.Omega.{arith}
 use borrow.Author.Tests.{eq-eqb, ne-eqb}
@@ -11,11 +11,10 @@ use lib.Arith.{mod-mul}
 use lib.Bits.{bitOr, bitXor, or-add-and, xor-add-and, and-le-l, and-le-r, xor-self, xor-mod, xor-shr}
 use lib.Count.{trailingZeros}
 use lib.Dec.{eqb, lit<}
-use lib.ListN.{length}
 use Rattle.words.specs.Word.{part, bytesOf}
 use Rattle.runs.specs.Native.{lowBytes}
 use Rattle.runs.specs.Run.{repeated, differenceFrom, difference, BothAlike}
-use Rattle.runs.specs.declared.run.Difference.the-variants.{At, Nowhere}
+use Rattle.runs.specs.declared.run.Difference.the-variants.{At}
 use Rattle.words.proofs.Parts.{part-two}
 use Rattle.runs.proofs.Runs.{repeated-twice, repeated-add}
 

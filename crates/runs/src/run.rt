@@ -29,15 +29,24 @@ pub fn fill(s: &mut [u8], at: usize, len: usize, w: u32)
     }
 }
 
-// The first place at which `len` bytes from an offset on differ from a word again and again. The first eight bytes, where most
-// hurts are, are tested before the others; the last few, and the eight that differ, are narrowed down byte by byte.
+// The first place at which `len` bytes from an offset on differ from a word again and again.
 pub fn first_difference(s: &[u8], at: usize, len: usize, w: u32) -> Difference
     requires { ⌜ at + len ≤ length (now s) ⌝ }
     ensures { λ r. ⌜ r ≡ difference (part (now (s .entry)) at len) (repeated len w) ⌝ }
 {
-    if len < 8 {
-        return difference_by_bytes(s, at, len, w);
+    if 8 <= len {
+        return difference_by_eights(s, at, len, w);
     }
+    difference_by_bytes(s, at, len, w)
+}
+
+// The same, eight bytes at a time. The first eight, where most hurts are, are tested before the others; the last few, and the
+// eight that differ, are narrowed down byte by byte.
+fn difference_by_eights(s: &[u8], at: usize, len: usize, w: u32) -> Difference
+    requires { ⌜ at + len ≤ length (now s) ⌝ }
+    requires { ⌜ 8 ≤ len ⌝ }
+    ensures { λ r. ⌜ r ≡ difference (part (now (s .entry)) at len) (repeated len w) ⌝ }
+{
     let head = eight::difference_at(s, at, eight::twice(w));
     if let Difference::At(o) = head {
         return Difference::At(o);
@@ -50,7 +59,7 @@ pub fn first_difference(s: &[u8], at: usize, len: usize, w: u32) -> Difference
     }
 }
 
-// The same as `first_difference`, one byte after the other.
+// The same, one byte after the other.
 pub fn difference_by_bytes(s: &[u8], at: usize, len: usize, w: u32) -> Difference
     requires { ⌜ at + len ≤ length (now s) ⌝ }
     ensures { λ r. ⌜ r ≡ difference (part (now (s .entry)) at len) (repeated len w) ⌝ }

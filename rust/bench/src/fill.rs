@@ -114,11 +114,6 @@ pub fn time_early() -> Requirement {
 /// One row: the ratio for each place, and the times for the place with the highest.
 fn time_early_run(length: usize, requirement: &mut Requirement) {
     let runs: [Vec<u8>; PLACES] = from_fn(|place| differing(length, place));
-    for (place, run) in runs.iter().enumerate() {
-        let story = format!("{length} bytes, byte {place}");
-        assert_eq!(first_difference(run, WORD), Some(place), "{story}");
-        assert_eq!(difference_by_bytes(run, WORD), Some(place), "{story}");
-    }
     let times: [Times; 2 * PLACES] = race(from_fn(|call| {
         let run = &runs[call / 2];
         if call % 2 == 0 {
@@ -143,10 +138,32 @@ fn time_early_run(length: usize, requirement: &mut Requirement) {
     );
 }
 
-/// The free fill with one byte changed.
+/// Times the fill test where a later byte differs: the ninth, the middle one or the last.
+pub fn time_late() {
+    println!("| bytes | differs at | by eights | byte by byte | ratio | middle half of ratios |");
+    println!("|--:|--:|--:|--:|--:|--:|");
+    for &length in &LENGTHS[1..] {
+        for place in [PLACES, length / 2, length - 1] {
+            let run = differing(length, place);
+            let [by_eights, by_bytes] = race([test_by_eights(&run), test_by_bytes(&run)]);
+            let ratio = by_eights.ratio(&by_bytes);
+            let (low, high) = by_eights.spread(&by_bytes);
+            println!(
+                "| {length} | {place} | {:.1} | {:.1} | {ratio:.2} | {low:.2} to {high:.2} |",
+                of_one(&by_eights),
+                of_one(&by_bytes),
+            );
+        }
+    }
+}
+
+/// The free fill with one byte changed, which both forms of the test find.
 fn differing(length: usize, place: usize) -> Vec<u8> {
     let mut run = filled(length);
     run[place] ^= 0xff;
+    let story = format!("{length} bytes, byte {place}");
+    assert_eq!(first_difference(&run, WORD), Some(place), "{story}");
+    assert_eq!(difference_by_bytes(&run, WORD), Some(place), "{story}");
     run
 }
 

@@ -60,6 +60,12 @@ One of the first eight bytes differs; by eights to byte by byte for each place, 
 times for the place where that is highest:
 ";
 
+const LATE: &str = "
+A later byte differs. The blocks of 64 bytes are read to the last one before it is looked
+for: soon behind the first eight bytes of a long run it costs what the whole run costs
+where nothing differs, which is more than byte by byte. For this there is no requirement:
+";
+
 const FILLING: &str = "
 The fill:
 ";
@@ -102,6 +108,8 @@ fn main() -> ExitCode {
     requirements.extend(fill::time_equal());
     println!("{EARLY}");
     requirements.push(fill::time_early());
+    println!("{LATE}");
+    fill::time_late();
     println!("{FILLING}");
     requirements.push(fill::time_fill());
     println!("{GROWTH}");

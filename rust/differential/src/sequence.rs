@@ -40,6 +40,16 @@ impl Sequence {
         self.below(times) == 0
     }
 
+    /// Room about what is needed: mostly that or more, now and then less.
+    pub fn room(&mut self, exact: usize) -> usize {
+        match self.below(12) {
+            0 => self.below(exact),
+            1 => exact - 1,
+            2..=5 => exact,
+            _ => exact + self.between(1, 40),
+        }
+    }
+
     pub fn pick<T: Copy>(&mut self, items: &[T]) -> T {
         items[self.below(items.len())]
     }

@@ -199,11 +199,8 @@ fn fills() {
                     let story = format!("{name}, {length} bytes from {shift} on, {word:#010x}");
                     assert_eq!(answer, is_lawful, "{story}");
                     assert!(all == expected, "{story}: other bytes");
-                    *(if is_lawful {
-                        &mut written
-                    } else {
-                        &mut refused
-                    }) += 1;
+                    written += usize::from(is_lawful);
+                    refused += usize::from(!is_lawful);
                 }
             }
         }

@@ -5,13 +5,13 @@ use std::fmt::Display;
 
 use combgallop::{inspect, inspect_answer};
 use differential::hurt::HURTS;
-use differential::samples::dump;
-use differential::{put_word, sound_image, Case, Image, Sequence, Shape};
+use differential::neighbours::{each_neighbour, each_small_size_code};
+use differential::{sound_image, Case, Image, Sequence, Shape};
 use reference::{chain, Finding, Refusal, Verdict};
 
 use crate::counts::{Counts, Met, ENDINGS, EXTREMES, READ_REFUSALS, VERDICTS};
 use crate::expected::{expected_answer, expected_finding, expected_refusal, put_rows};
-use crate::lent::{numbered, some_room, Guarded, Lent};
+use crate::lent::{numbered, Guarded, Lent};
 
 const CASES: u64 = 60_000;
 const SEED: u64 = 0x1d5b_ec71;
@@ -71,7 +71,7 @@ fn hurt_images() {
     let mut counts = Counts::default();
     for number in 0..CASES {
         let (case, mut sequence) = Case::new(SEED, number);
-        let room = some_room(3 * case.image.shape.count, &mut sequence);
+        let room = sequence.room(3 * case.image.shape.count);
         let found = compare(&case.image, room, &mut sequence, &case);
         note(&mut counts, &case.image, found);
         for name in case.hurts {
@@ -97,67 +97,25 @@ fn sound_images_have_no_fault() {
     }
 }
 
-/// Each byte of the dump's sheet, heap and records, changed to each other value; with
-/// its allocated buffer as it is, granted whole, and granted at full size.
 #[test]
 fn neighbours_of_the_dump() {
     let mut sequence = Sequence::new(SEED);
     let mut counts = Counts::default();
-    for redzone in [
-        [0xfeed_face, 0x139d],
-        [0xfeed_face; 2],
-        [0xbbed_face, 0x1789],
-    ] {
-        let mut image = dump();
-        let (r0, r1) = (image.r0(1), image.r1(1));
-        put_word(&mut image.heap, r0, redzone[0]);
-        put_word(&mut image.heap, r1, redzone[1]);
-        let lengths = [image.sheet.len(), image.heap.len(), image.records.len()];
-        for (area, length) in lengths.into_iter().enumerate() {
-            for at in 0..length {
-                compare_values(&mut image, area, at, &mut sequence, &mut counts);
-            }
-        }
-    }
+    each_neighbour(|image| {
+        let found = compare(image, 10, &mut sequence, image);
+        note(&mut counts, image, found);
+    });
     counts.finish("inspect, neighbours of the dump", SEED, &VERDICTS[..3]);
 }
 
-/// Every value of one byte; the byte is then as it was.
-fn compare_values(
-    image: &mut Image,
-    area: usize,
-    at: usize,
-    sequence: &mut Sequence,
-    counts: &mut Counts,
-) {
-    let stood = *image.byte_mut(area, at);
-    for value in 0..=255 {
-        *image.byte_mut(area, at) = value;
-        let found = compare(image, 10, sequence, image);
-        note(counts, image, found);
-    }
-    *image.byte_mut(area, at) = stood;
-}
-
-/// Every small R1 of the dump's allocated buffer, past the code of its buffer size,
-/// with R0 of either grant and with the guard byte everywhere.
 #[test]
 fn every_small_size_code() {
     let mut sequence = Sequence::new(SEED);
     let mut counts = Counts::default();
-    let mut image = dump();
-    let (r0_at, r1_at) = (image.r0(1), image.r1(1));
-    for fill in [0xbb, 0xba] {
-        image.heap[40..64].fill(fill);
-        for r0 in [0xfeed_face, 0xbbed_face] {
-            put_word(&mut image.heap, r0_at, r0);
-            for r1 in 0..7_000 {
-                put_word(&mut image.heap, r1_at, r1);
-                let found = compare(&image, 9, &mut sequence, &image);
-                note(&mut counts, &image, found);
-            }
-        }
-    }
+    each_small_size_code(|image| {
+        let found = compare(image, 9, &mut sequence, image);
+        note(&mut counts, image, found);
+    });
     let wanted = [Met::Verdict(2), Met::Verdict(27), Met::Verdict(28)];
     counts.finish("inspect, every small size code", SEED, &wanted);
 }

@@ -49,16 +49,6 @@ impl<T: Copy + PartialEq + From<u8>> Guarded<T> {
     }
 }
 
-/// Mostly the exact room or more, now and then less.
-pub fn some_room(exact: usize, sequence: &mut Sequence) -> usize {
-    match sequence.below(12) {
-        0 => sequence.below(exact),
-        1 => exact - 1,
-        2..=5 => exact,
-        _ => exact + sequence.between(1, 40),
-    }
-}
-
 /// What stands in lent numbers before a call: each is one more than the one before it.
 pub fn numbered(first: u32, length: usize) -> Vec<u32> {
     (first..).take(length).collect()

@@ -12,7 +12,7 @@ use crate::counts::{Counts, Met, ENDINGS, EXTREMES, READ_REFUSALS, VERDICTS};
 use crate::expected::{
     expected_answer, expected_finding, expected_refusal, put_rows, SHORT_OUTPUT,
 };
-use crate::lent::{numbered, some_room, Guarded, Lent};
+use crate::lent::{numbered, Guarded, Lent};
 
 const CASES: u64 = 60_000;
 const SEED: u64 = 0x4be2_7716;
@@ -182,8 +182,8 @@ fn hurt_images() {
     for number in 0..CASES {
         let (case, mut sequence) = Case::new(SEED, number);
         let room = Room {
-            rows: some_room(3 * case.image.shape.count, &mut sequence),
-            chain: some_room(3, &mut sequence),
+            rows: sequence.room(3 * case.image.shape.count),
+            chain: sequence.room(3),
         };
         let found = compare(&case.image, room, &mut sequence, &case);
         note(&mut counts, &case.image, room, found);

@@ -71,13 +71,3 @@ pub fn compare(
     }
     expected.map(|_| findings)
 }
-
-/// Mostly the exact room or more, now and then less.
-pub fn some_room(exact: usize, sequence: &mut Sequence) -> usize {
-    match sequence.below(12) {
-        0 => sequence.below(exact),
-        1 => exact - 1,
-        2..=5 => exact,
-        _ => exact + sequence.between(1, 40),
-    }
-}

@@ -4,10 +4,11 @@ mod compare;
 mod counts;
 
 use differential::hurt::HURTS;
+use differential::neighbours::{each_neighbour, each_small_size_code};
 use differential::samples::dump;
-use differential::{put_word, sound_image, Case, Image, Sequence};
+use differential::{sound_image, Case, Sequence};
 
-use compare::{compare, some_room};
+use compare::compare;
 use counts::{refusal, verdict, Counts, REFUSALS, VERDICTS};
 
 const SEED: u64 = 0x2c6e_91d3;
@@ -17,7 +18,7 @@ fn hurt_images() {
     let mut counts = Counts::default();
     for number in 0..60_000 {
         let (case, mut sequence) = Case::new(SEED, number);
-        let room = some_room(3 * case.image.shape.count, &mut sequence);
+        let room = sequence.room(3 * case.image.shape.count);
         let found = compare(&case.image, room, &mut sequence, &case);
         counts.note_found(&found);
         for name in case.hurts {
@@ -43,49 +44,16 @@ fn sound_images() {
     counts.finish("sound images", SEED, [0, 1, 2].map(verdict));
 }
 
-/// Each byte of the dump's sheet, heap and records, changed to each other value; with
-/// its allocated buffer as it is, granted whole, and granted at full size.
 #[test]
 fn neighbours_of_the_dump() {
     let mut counts = Counts::default();
     let mut sequence = Sequence::new(SEED);
-    for redzone in [
-        [0xfeed_face, 0x139d],
-        [0xfeed_face; 2],
-        [0xbbed_face, 0x1789],
-    ] {
-        let mut image = dump();
-        let (r0, r1) = (image.r0(1), image.r1(1));
-        put_word(&mut image.heap, r0, redzone[0]);
-        put_word(&mut image.heap, r1, redzone[1]);
-        let lengths = [image.sheet.len(), image.heap.len(), image.records.len()];
-        for (area, length) in lengths.into_iter().enumerate() {
-            for at in 0..length {
-                compare_values(&mut image, area, at, &mut sequence, &mut counts);
-            }
-        }
-    }
+    each_neighbour(|image| counts.note_found(&compare(image, 10, &mut sequence, image)));
     // A chain comes back only when a whole address is written.
     let verdicts = VERDICTS.iter().filter(|number| **number != 22);
     let wanted = verdicts.map(|number| verdict(*number));
     let wanted = wanted.chain([1, 2, 3].map(refusal));
     counts.finish("neighbours of the dump", SEED, wanted);
-}
-
-/// Every value of one byte; the byte is then as it was.
-fn compare_values(
-    image: &mut Image,
-    area: usize,
-    at: usize,
-    sequence: &mut Sequence,
-    counts: &mut Counts,
-) {
-    let stood = *image.byte_mut(area, at);
-    for value in 0..=255 {
-        *image.byte_mut(area, at) = value;
-        counts.note_found(&compare(image, 10, sequence, image));
-    }
-    *image.byte_mut(area, at) = stood;
 }
 
 /// The dump with areas and rows of many lengths, so that refusals stand beside each
@@ -113,23 +81,10 @@ fn every_length() {
     counts.finish("every length", SEED, wanted.chain([1, 3, 11].map(refusal)));
 }
 
-/// Every small R1 of the dump's allocated buffer, past the code of its buffer size,
-/// with R0 of either grant and with the guard byte everywhere or nowhere.
 #[test]
 fn every_small_size_code() {
     let mut counts = Counts::default();
     let mut sequence = Sequence::new(SEED);
-    let mut image = dump();
-    let (buffer, r0_at, r1_at) = (image.buffer(1), image.r0(1), image.r1(1));
-    for byte in [0xbb, 0xba] {
-        image.heap[buffer..r0_at].fill(byte);
-        for r0 in [0xfeed_face, 0xbbed_face] {
-            put_word(&mut image.heap, r0_at, r0);
-            for r1 in 0..7_000 {
-                put_word(&mut image.heap, r1_at, r1);
-                counts.note_found(&compare(&image, 9, &mut sequence, &image));
-            }
-        }
-    }
+    each_small_size_code(|image| counts.note_found(&compare(image, 9, &mut sequence, image)));
     counts.finish("every small size code", SEED, [2, 27, 28].map(verdict));
 }

@@ -1,6 +1,6 @@
 -- The loop's invariant: where nothing was gathered, the first i bytes repeat the word. Assumes nothing.
 use mathlib.Core.Path.{_≡_}
-use Prim.Native.Nat.{_+_, _*_, _≤_, _-_, _/_, _%_}
+use Prim.Native.Nat.{_≤_, _-_, _%_}
 use native.Mathlib.Omega.{arith}
 use borrow.Author.Needs.{needs}
 use Rattle.words.specs.Word.{part}

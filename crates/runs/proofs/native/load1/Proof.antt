@@ -1,6 +1,7 @@
-use Rattle.runs.proofs.Loads.{loaded-one}
+-- One byte is its own number. Assumes nothing.
 use native.Mathlib.Omega.{arith}
 use borrow.Author.Needs.{needs}
+use Rattle.runs.proofs.Loads.{loaded-one}
 use Rattle.runs.proofs.native.load1.Statement.{statement}
 use Rattle.runs.proofs.native.load1.Tie as tie
 

@@ -1,5 +1,6 @@
-use Rattle.runs.proofs.Loads.{loaded}
+-- The halves stand one after the other. Assumes nothing.
 use borrow.Author.Needs.{needs}
+use Rattle.runs.proofs.Loads.{loaded}
 use Rattle.runs.proofs.native.load8.Statement.{statement}
 use Rattle.runs.proofs.native.load8.Tie as tie
 

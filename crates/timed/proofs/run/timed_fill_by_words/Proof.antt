@@ -32,8 +32,9 @@ loop-again c =
     let p = v .before .before .before in
     let i = p .loop .i in
     let once = fill-more _ _ _ _ 0 i 4 i (i + 4) _ (p .loop .inv .3) (v .write-u32 .ensures) (sym (repeated-once _)) (omega arith) refl (omega arith) in
-    let twice = fill-more _ _ _ _ 0 (i + 4) 4 (i + 4) (i + 8) _ once (w .write-u322 .ensures) (sym (repeated-once _)) (omega arith) (omega arith) (omega arith) in
-    (search needs, search needs, search needs, twice)
+    let second = w .write-u322 .ensures in
+    let both = fill-more _ _ _ _ 0 (i + 4) 4 (i + 4) (i + 8) _ once second (sym (repeated-once _)) (omega arith) (omega arith) (omega arith) in
+    (search needs, search needs, search needs, both)
 
 returns-2 : tie.Need-returns-2 Inv-loop μ-loop
 returns-2 c =
