@@ -1,7 +1,8 @@
 //! Compiles the plain C and links it, and links the archive of the verified fill test.
 
 use std::env;
-use std::path::Path;
+use std::fs;
+use std::path::{Path, PathBuf};
 use std::process::Command;
 
 const FLAGS: [&str; 6] = ["-std=c11", "-O3", "-Wall", "-Wextra", "-Werror", "-c"];
@@ -17,17 +18,35 @@ fn main() {
 fn link_plain(package: &Path, output: &Path) {
     let folder = package.join("plain");
     println!("cargo::rerun-if-changed={}", folder.display());
-    let object = output.join("inspect.o");
-    let mut compile = Command::new("gcc");
-    compile.args(FLAGS).arg(folder.join("inspect.c"));
-    run(compile.arg("-o").arg(&object));
+    let library = output.join("libplain.a");
+    // An archive that stands would keep the objects of sources that are gone.
+    if library.exists() {
+        fs::remove_file(&library).expect("the old archive can be removed");
+    }
     let mut archive = Command::new("ar");
-    run(archive
-        .arg("rcs")
-        .arg(output.join("libplain.a"))
-        .arg(&object));
+    archive.arg("rcs").arg(&library);
+    for source in sources(&folder) {
+        let name = source.file_stem().expect("a source has a name");
+        let object = output.join(name).with_extension("o");
+        let mut compile = Command::new("gcc");
+        run(compile.args(FLAGS).arg(&source).arg("-o").arg(&object));
+        archive.arg(object);
+    }
+    run(&mut archive);
     println!("cargo::rustc-link-search=native={}", output.display());
     println!("cargo::rustc-link-lib=static=plain");
+}
+
+/// The C sources of a folder, in the order of their names, so that the archive is always
+/// the same.
+fn sources(folder: &Path) -> Vec<PathBuf> {
+    let entries = fs::read_dir(folder).expect("the folder of the C sources");
+    let mut sources: Vec<PathBuf> = entries
+        .map(|entry| entry.expect("an entry of the folder").path())
+        .filter(|path| path.extension().is_some_and(|extension| extension == "c"))
+        .collect();
+    sources.sort();
+    sources
 }
 
 fn run(command: &mut Command) {

@@ -7,9 +7,6 @@ use reference::{Finding, Refusal};
 /// Every verdict there is.
 pub const VERDICTS: [u32; 12] = [0, 1, 2, 20, 21, 22, 23, 24, 25, 26, 27, 28];
 
-/// The refusals that inspect can give, by the rules.
-pub const REFUSALS: [u8; 4] = [1, 2, 3, 11];
-
 /// How often each thing was met.
 #[derive(Default)]
 pub struct Counts(BTreeMap<String, usize>);
@@ -26,8 +23,12 @@ impl Counts {
                     self.note(verdict(finding.verdict.number()));
                 }
             }
-            Err(refused) => self.note(refusal(refused.number)),
+            Err(refused) => self.note_refusal("inspect", *refused),
         }
+    }
+
+    pub fn note_refusal(&mut self, call: &str, refused: Refusal) {
+        self.note(refusal(call, (refused.number, refused.detail)));
     }
 
     /// Prints the counts, and fails where a thing that can be met was not.
@@ -46,6 +47,20 @@ pub fn verdict(number: u32) -> String {
     format!("verdict {number:02}")
 }
 
-pub fn refusal(number: u8) -> String {
-    format!("refusal {number:02}")
+pub fn accepted(call: &str) -> String {
+    format!("{call} accepted")
+}
+
+/// A refusal's number and detail.
+pub fn refusal(call: &str, (number, detail): (u8, u8)) -> String {
+    format!("{call} refused {number:02}, detail {detail:02}")
+}
+
+/// So many refusals of a call.
+pub fn refusals<'a>(call: &'a str, all: &'a [(u8, u8)]) -> impl Iterator<Item = String> + 'a {
+    all.iter().map(move |&one| refusal(call, one))
+}
+
+pub fn hurt(name: &str) -> String {
+    format!("hurt: {name}")
 }

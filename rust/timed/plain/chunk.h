@@ -1,0 +1,103 @@
+/*
+ * A chunk: a buffer, its redzone words R0 and R1, and its tag words T0 and T1. All of it
+ * is compiled into the calls.
+ */
+#ifndef PLAIN_CHUNK_H
+#define PLAIN_CHUNK_H
+
+#include "image.h"
+
+/* Where the words stand in what follows a buffer. */
+enum {
+    R0 = 0,
+    R1 = 4,
+    T0 = 8,
+    T1 = 12
+};
+
+#define ALLOCATED_TAG 0xa110c8edu
+#define FREE_TAG 0xf4eef4eeu
+#define REDZONE 0xfeedfaceu
+#define FULL_SIZE_REDZONE 0xbbedfaceu
+#define GUARD 0xbb
+#define CODE_FACTOR 251
+
+/* The longest buffer, filled with a word of these bytes. */
+#define FOUR_TIMES(...) __VA_ARGS__, __VA_ARGS__, __VA_ARGS__, __VA_ARGS__
+#define WORDS_64(...) FOUR_TIMES(FOUR_TIMES(FOUR_TIMES(__VA_ARGS__)))
+#define PAGE(...) {FOUR_TIMES(FOUR_TIMES(WORDS_64(__VA_ARGS__)))}
+
+static const uint8_t free_page[SIZE_MOST] = PAGE(0xde, 0xad, 0xbe, 0xef);
+
+struct tag {
+    uint32_t record; /* an address */
+    uint32_t pattern;
+};
+
+struct verdict {
+    uint32_t number;
+    uint32_t value; /* the size or the offset, else 0 */
+};
+
+static inline struct tag tag_of(const uint8_t *buffer, uint32_t size)
+{
+    uint32_t t0 = word_at(buffer + size + T0);
+    return (struct tag){t0, t0 ^ word_at(buffer + size + T1)};
+}
+
+static inline bool has_pattern(struct tag tag)
+{
+    return tag.pattern == FREE_TAG || tag.pattern == ALLOCATED_TAG;
+}
+
+/* Which byte of two different words is the first to differ, the highest being byte 0. */
+static inline uint32_t first_difference(uint32_t word, uint32_t other)
+{
+    return (uint32_t)__builtin_clz(word ^ other) / 8;
+}
+
+static inline struct verdict bad_fill(const uint8_t *buffer)
+{
+    uint32_t offset = 0;
+    while (buffer[offset] == free_page[offset])
+        offset++;
+    return (struct verdict){BAD_FILL, offset};
+}
+
+/* The rules from 25 on, for a buffer with the free pattern. */
+static inline struct verdict judge_free(const uint8_t *buffer, uint32_t size)
+{
+    if (memcmp(buffer, free_page, size) != 0)
+        return bad_fill(buffer);
+    uint32_t r0 = word_at(buffer + size + R0);
+    if (r0 != REDZONE)
+        return (struct verdict){BAD_REDZONE, size + R0 + first_difference(r0, REDZONE)};
+    uint32_t r1 = word_at(buffer + size + R1);
+    if (r1 != REDZONE)
+        return (struct verdict){BAD_REDZONE, size + R1 + first_difference(r1, REDZONE)};
+    return (struct verdict){FREE, 0};
+}
+
+/* The rules from 27 on, for a buffer with the allocated pattern. */
+static inline struct verdict judge_allocated(const uint8_t *buffer, uint32_t size)
+{
+    struct verdict sound = {WHOLE, 0};
+    uint32_t expected = REDZONE;
+    uint32_t r1 = word_at(buffer + size + R1);
+    if (r1 != REDZONE) {
+        uint32_t granted = r1 / CODE_FACTOR;
+        if (r1 % CODE_FACTOR != 1 || granted < 1 || granted > size)
+            return (struct verdict){BAD_SIZE_CODE, 0};
+        if (buffer[granted] != GUARD)
+            return (struct verdict){OVERRUN, granted};
+        if (granted == size)
+            expected = FULL_SIZE_REDZONE;
+        sound = (struct verdict){ALLOCATED, granted};
+    }
+    uint32_t r0 = word_at(buffer + size + R0);
+    if (r0 != expected)
+        return (struct verdict){OVERRUN, size + R0 + first_difference(r0, expected)};
+    return sound;
+}
+
+#endif

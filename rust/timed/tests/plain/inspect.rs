@@ -1,0 +1,119 @@
+//! Inspect: the same answer and the same rows.
+
+use std::fmt::Display;
+
+use differential::hurt::HURTS;
+use differential::neighbours::{each_neighbour, each_small_size_code};
+use differential::{sound_image, Case, Image, Sequence};
+use reference::{Finding, Refusal};
+use timed::plain_inspect;
+
+use crate::counts::{hurt, refusals, verdict, Counts, VERDICTS};
+use crate::lengths::each_length;
+use crate::lent::{expected_answer, Areas};
+
+const SEED: u64 = 0x2c6e_91d3;
+
+/// The refusals that inspect can give, by the rules.
+const REFUSALS: [(u8, u8); 4] = [(1, 0), (2, 0), (3, 0), (11, 0)];
+
+/// What stands in the lent numbers, and before and after them.
+const UNTOUCHED: u32 = 0xa5a5_c3c3;
+
+/// How many numbers before and after the lent ones must stay.
+const AROUND: usize = 5;
+
+/// Inspects an image with room for so many numbers, by both, and answers what the
+/// reference finds.
+fn compare(
+    image: &Image,
+    room: usize,
+    sequence: &mut Sequence,
+    story: &dyn Display,
+) -> Result<Vec<Finding>, Refusal> {
+    let mut findings = vec![Finding::default(); room / 3];
+    let expected = reference::inspect(&image.sheet, &image.heap, &image.records, &mut findings);
+    findings.truncate(expected.unwrap_or(0));
+    let mut expected_rows = vec![UNTOUCHED; room + 2 * AROUND];
+    for (row, finding) in expected_rows[AROUND..].chunks_exact_mut(3).zip(&findings) {
+        let Finding { index, verdict } = *finding;
+        row.copy_from_slice(&[index, verdict.number(), verdict.value()]);
+    }
+
+    let lent = Areas::new(image, sequence);
+    let (sheet, heap, records) = (lent.sheet.part(), lent.heap.part(), lent.records.part());
+    let mut rows = vec![UNTOUCHED; room + 2 * AROUND];
+    let answer = plain_inspect(sheet, heap, records, &mut rows[AROUND..AROUND + room]);
+    let expected_answer = expected_answer(expected.map(|count| count as u32));
+    assert_eq!(answer, expected_answer, "room {room}, {story}");
+    assert_eq!(rows, expected_rows, "room {room}, {story}");
+    lent.assert_hold(image, story);
+    expected.map(|_| findings)
+}
+
+#[test]
+fn hurt_images() {
+    let mut counts = Counts::default();
+    for number in 0..60_000 {
+        let (case, mut sequence) = Case::new(SEED, number);
+        let room = sequence.room(3 * case.image.shape.count);
+        let found = compare(&case.image, room, &mut sequence, &case);
+        counts.note_found(&found);
+        for name in case.hurts {
+            counts.note(hurt(name));
+        }
+    }
+    let hurts = HURTS.iter().map(|(name, _)| hurt(name));
+    let wanted = VERDICTS.map(verdict).into_iter().chain(hurts);
+    let wanted = wanted.chain(refusals("inspect", &REFUSALS));
+    counts.finish("inspect, hurt images", SEED, wanted);
+}
+
+#[test]
+fn sound_images() {
+    let mut counts = Counts::default();
+    let mut sequence = Sequence::new(SEED);
+    for _ in 0..2_000 {
+        let image = sound_image(&mut sequence);
+        let room = 3 * image.shape.count;
+        let found = compare(&image, room, &mut sequence, &image);
+        assert!(found.is_ok(), "a sound image is not refused: {image}");
+        counts.note_found(&found);
+    }
+    counts.finish("inspect, sound images", SEED, [0, 1, 2].map(verdict));
+}
+
+#[test]
+fn neighbours_of_the_dump() {
+    let mut counts = Counts::default();
+    let mut sequence = Sequence::new(SEED);
+    each_neighbour(|image| counts.note_found(&compare(image, 10, &mut sequence, image)));
+    // A chain comes back only when a whole address is written.
+    let verdicts = VERDICTS.iter().filter(|number| **number != 22);
+    let wanted = verdicts.map(|number| verdict(*number));
+    let wanted = wanted.chain(refusals("inspect", &[(1, 0), (2, 0), (3, 0)]));
+    counts.finish("inspect, neighbours of the dump", SEED, wanted);
+}
+
+#[test]
+fn every_length() {
+    let mut counts = Counts::default();
+    let mut sequence = Sequence::new(SEED);
+    each_length(|image| {
+        for room in [0, 1, 8, 9, 10] {
+            counts.note_found(&compare(image, room, &mut sequence, image));
+        }
+    });
+    let wanted = [verdict(0), verdict(2)].into_iter();
+    let wanted = wanted.chain(refusals("inspect", &[(1, 0), (3, 0), (11, 0)]));
+    counts.finish("inspect, every length", SEED, wanted);
+}
+
+#[test]
+fn every_small_size_code() {
+    let mut counts = Counts::default();
+    let mut sequence = Sequence::new(SEED);
+    each_small_size_code(|image| counts.note_found(&compare(image, 9, &mut sequence, image)));
+    let wanted = [2, 27, 28].map(verdict);
+    counts.finish("inspect, every small size code", SEED, wanted);
+}
