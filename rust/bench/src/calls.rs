@@ -9,8 +9,8 @@ use crate::requirement::Requirement;
 use crate::table::{print_sides, SIDES_HEAD};
 use crate::timing::race;
 
-const UPTIME: u32 = 1000;
-const THREAD: u32 = 7;
+pub const UPTIME: u32 = 1000;
+pub const THREAD: u32 = 7;
 
 /// The buffer sizes with which there may be 512 buffers.
 const PAIR_SIZES: [usize; 2] = [24, 112];
@@ -57,7 +57,7 @@ fn check_pair(size: usize, grant: u32) {
     assert_eq!(image.input(), second.input(), "allocate and free of {size}");
 }
 
-fn pair_by_library(image: &mut Image, grant: u32) {
+pub fn pair_by_library(image: &mut Image, grant: u32) {
     use combgallop::{allocate, free, Grant};
     let Image {
         sheet,

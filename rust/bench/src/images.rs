@@ -79,6 +79,35 @@ pub fn hurt(size: usize, count: usize) -> Image {
     image
 }
 
+/// The most rows a log has.
+pub const MOST_ROWS: u32 = 1024;
+
+/// An image of the most buffers with the longest log, all of whose rows are of the last
+/// buffer, each younger than the one before, or of the first; and what it is called.
+pub fn logged() -> [(&'static str, Image); 2] {
+    let image = all_free(112, 512);
+    let last_record = image.shape.record_address(image.shape.count - 1);
+    let first_record = image.shape.record_address(0);
+    [
+        ("each row younger than the one before", last_record),
+        ("no row of the buffer's", first_record),
+    ]
+    .map(|(kind, named)| {
+        let log = (1..=MOST_ROWS).flat_map(|uptime| row(named, uptime));
+        let image = Image {
+            log: log.collect(),
+            ..image.clone()
+        };
+        (kind, image)
+    })
+}
+
+/// A row of the log: record address, uptime, thread, kind.
+fn row(record: u32, uptime: u32) -> Vec<u8> {
+    let words = [record, uptime, THREAD, 1];
+    words.iter().flat_map(|word| word.to_be_bytes()).collect()
+}
+
 /// Every buffer is out, whole and with several sizes in turn.
 fn all_allocated(size: usize, count: usize) -> Image {
     let mut image = all_free(size, count);

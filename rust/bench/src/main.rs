@@ -37,11 +37,12 @@ the heap's own redzones and tags would stop it.
 ";
 
 const PLAIN: &str = "
-### Inspect beside plain C
+### Beside plain C
 
-The same call as a C programmer would write it in place of the library's
-(`rust/timed/plain/inspect.c`, compiled by gcc with -O3). It compares a free buffer with a
-page of the free fill by `memcmp`. Both fill the same rows.
+The same calls as a C programmer would write them in place of the library's
+(`rust/timed/plain`, compiled by gcc with -O3). A free buffer is compared with a page of the
+free fill by `memcmp`, and a buffer is filled from such a page by `memcpy`. Answers, rows
+and areas are the same.
 ";
 
 const FILL: &str = "
@@ -103,7 +104,7 @@ fn main() -> ExitCode {
     println!("{READER}");
     let mut requirements = Vec::from(reader::time_reader());
     println!("{PLAIN}");
-    requirements.push(plain::time_plain());
+    requirements.extend(plain::time_plain());
     println!("{FILL}");
     requirements.extend(fill::time_equal());
     println!("{EARLY}");

@@ -1,82 +1,147 @@
-//! Inspect beside the same call in plain C.
+//! The library's calls beside the same calls in plain C.
 
 use std::hint::black_box;
 
 use differential::Image;
 
-use crate::images::{all_free, half_allocated, hurt};
+use crate::calls::{pair_by_library, THREAD, UPTIME};
+use crate::images::{all_free, half_allocated, hurt, logged, LARGEST, MOST_ROWS};
 use crate::reader::inspect_by_library;
 use crate::requirement::Requirement;
-use crate::timing::race;
+use crate::timing::{race, Times};
 
-const SHAPES: [(usize, usize); 3] = [(4096, 15), (112, 512), (24, 512)];
-
-/// A way to make an image, and whether its buffers are sound: the bytes of its free
-/// buffers are then read to their ends.
-type Kind = (&'static str, fn(usize, usize) -> Image, bool);
+type Kind = (&'static str, fn(usize, usize) -> Image);
 
 const KINDS: [Kind; 3] = [
-    ("all free", all_free, true),
-    ("half allocated", half_allocated, true),
-    ("hurt", hurt, false),
+    ("all free", all_free),
+    ("half allocated", half_allocated),
+    ("hurt", hurt),
 ];
 
-/// The size of the buffers for which there is a requirement: with the longest ones
-/// nearly all of the time goes into reading the fill.
-const REQUIRED_SIZE: usize = 4096;
+pub const HEAD: &str = "\
+| call | Rattle | plain C | ratio | middle half of ratios |
+|---|--:|--:|--:|--:|";
 
-/// Times inspect by the library and in plain C.
-pub fn time_plain() -> Requirement {
-    let what = "inspect of 4096 x 15, free and half allocated: to plain C";
-    let mut requirement = Requirement::new(what, 2.0);
-    println!("| image | faults | Rattle | plain C | ratio | middle half of ratios |");
-    println!("|---|--:|--:|--:|--:|--:|");
-    for (size, count) in SHAPES {
-        for (kind, make, is_sound) in KINDS {
-            let case = format!("{size} x {count}, {kind}");
-            let ratio = time_image(&case, &make(size, count));
-            if size == REQUIRED_SIZE && is_sound {
-                requirement.add(&case, ratio);
-            }
+/// Times the calls by the library and in plain C.
+pub fn time_plain() -> [Requirement; 3] {
+    println!("{HEAD}");
+    [time_inspect(), time_latest(), time_pairs()]
+}
+
+fn time_inspect() -> Requirement {
+    let mut requirement = Requirement::new("inspect: to plain C", 1.25);
+    for (size, count) in LARGEST {
+        for (kind, make) in KINDS {
+            let image = make(size, count);
+            let faults = faults_found(&image);
+            let [rattle, plain] = race_inspect(&image);
+            let case = format!("inspect, {size} x {count}, {kind}");
+            let row = format!("{case}, {faults} faults");
+            requirement.add(&case, print_row(&row, &rattle, &plain));
         }
     }
     requirement
 }
 
-/// Prints the row of an image, and answers the ratio.
-fn time_image(case: &str, image: &Image) -> f64 {
-    let faults = faults_found(case, image);
-    let mut rows = vec![0; 3 * image.shape.count];
-    let mut plain_rows = rows.clone();
-    let [rattle, plain] = race([
-        Box::new(|| inspect_by_library(black_box(image), black_box(&mut rows))),
-        Box::new(|| inspect_by_plain(black_box(image), black_box(&mut plain_rows))),
-    ]);
-    let ratio = rattle.ratio(&plain);
-    let (low, high) = rattle.spread(&plain);
+/// Prints a row, and answers the ratio.
+fn print_row(row: &str, rattle: &Times, plain: &Times) -> f64 {
+    let ratio = rattle.ratio(plain);
+    let (low, high) = rattle.spread(plain);
     println!(
-        "| {case} | {faults} | {:.0} | {:.0} | {ratio:.2} | {low:.2} to {high:.2} |",
+        "| {row} | {:.0} | {:.0} | {ratio:.2} | {low:.2} to {high:.2} |",
         rattle.median(),
         plain.median(),
     );
     ratio
 }
 
+fn race_inspect(image: &Image) -> [Times; 2] {
+    let mut rows = vec![0; 3 * image.shape.count];
+    let mut plain_rows = rows.clone();
+    race([
+        Box::new(|| inspect_by_library(black_box(image), black_box(&mut rows))),
+        Box::new(|| inspect_by_plain(black_box(image), black_box(&mut plain_rows))),
+    ])
+}
+
 /// How many faults both find. Answers and rows are the same, so that the same work is
 /// timed.
-fn faults_found(case: &str, image: &Image) -> usize {
+fn faults_found(image: &Image) -> usize {
     let (sheet, heap, records) = (&image.sheet, &image.heap, &image.records);
     let mut rows = vec![0; 3 * image.shape.count];
     let mut plain_rows = rows.clone();
     let answer = combgallop::inspect_answer(sheet, heap, records, &mut rows);
     let plain_answer = timed::plain_inspect(sheet, heap, records, &mut plain_rows);
-    assert_eq!(answer.0, plain_answer, "{case}");
-    assert_eq!(rows, plain_rows, "{case}");
+    assert_eq!(answer.0, plain_answer, "inspect");
+    assert_eq!(rows, plain_rows, "inspect");
     rows.chunks_exact(3).filter(|row| row[1] >= 20).count()
 }
 
 fn inspect_by_plain(image: &Image, rows: &mut [u32]) {
     let answer = timed::plain_inspect(&image.sheet, &image.heap, &image.records, rows);
+    check(answer);
+}
+
+/// Fails where a call was refused.
+fn check(answer: u64) {
     let refusal = black_box(answer) as u8;
-    assert_eq!(refusal, 0, "a lawful image");
+    assert_eq!(refusal, 0, "a lawful call");
+}
+
+fn time_latest() -> Requirement {
+    let mut requirement = Requirement::new("latest: to plain C", 1.25);
+    for (kind, image) in logged() {
+        let index = image.shape.count as u32 - 1;
+        let Image {
+            sheet,
+            heap,
+            records,
+            log,
+            ..
+        } = &image;
+        let by_library = || combgallop::latest_answer(sheet, heap, records, log, index, MOST_ROWS);
+        let by_plain = || timed::plain_latest(sheet, heap, records, log, index, MOST_ROWS);
+        assert_eq!(by_library().0, by_plain(), "latest, {kind}");
+        let [rattle, plain] = race([
+            Box::new(|| check(by_library().0)),
+            Box::new(|| check(by_plain())),
+        ]);
+        let case = format!("latest, 112 x 512, {MOST_ROWS} rows, {kind}");
+        requirement.add(&case, print_row(&case, &rattle, &plain));
+    }
+    requirement
+}
+
+/// An allocate and the free of the same buffer, after which the chain is as before.
+fn time_pairs() -> Requirement {
+    let mut requirement = Requirement::new("allocate and free: to plain C", 1.5);
+    for (size, count) in LARGEST {
+        let grant = size as u32 - 4;
+        let [mut image, mut plain_image] = [(); 2].map(|()| all_free(size, count));
+        pair_by_library(&mut image, grant);
+        pair_by_plain(&mut plain_image, grant);
+        assert_eq!(image.input(), plain_image.input(), "allocate and free");
+        let [rattle, plain] = race([
+            Box::new(|| pair_by_library(&mut image, grant)),
+            Box::new(|| pair_by_plain(&mut plain_image, grant)),
+        ]);
+        let case = format!("allocate and free, {size} x {count}");
+        requirement.add(&case, print_row(&case, &rattle, &plain));
+    }
+    requirement
+}
+
+fn pair_by_plain(image: &mut Image, grant: u32) {
+    let Image {
+        sheet,
+        heap,
+        records,
+        ..
+    } = image;
+    let grant = Some(black_box(grant));
+    let answer = timed::plain_allocate(sheet, heap, records, grant, UPTIME, THREAD);
+    check(answer);
+    let address = (answer >> 32) as u32;
+    let answer = timed::plain_free(sheet, heap, records, address, grant, UPTIME, THREAD);
+    check(answer);
 }

@@ -5,7 +5,9 @@ use std::hint::black_box;
 use differential::Image;
 use reference::Finding;
 
-use crate::images::{all_free, chained_back, chained_far, half_allocated, hurt, LARGEST};
+use crate::images::{
+    all_free, chained_back, chained_far, half_allocated, hurt, logged, LARGEST, MOST_ROWS,
+};
 use crate::limits::{compare, filled, read, scan};
 use crate::requirement::Requirement;
 use crate::table::{print_sides, SIDES_HEAD};
@@ -32,13 +34,21 @@ const KINDS: [Kind; 5] = [
     ("all free, chain in long jumps", chained_far, true),
 ];
 
+/// What a line of the report may take beside the judging, in nanoseconds.
+const LINE: f64 = 20.0;
+
+/// How many lines a report has beside those of the buffers: the first, the chain's and
+/// that of the faults.
+const OTHER_LINES: usize = 3;
+
 /// Times inspect and report on the largest images, beside what reading them takes.
-pub fn time_reader() -> [Requirement; 4] {
+pub fn time_reader() -> [Requirement; 5] {
     let mut requirements = [
         Requirement::new("inspect: no slower than the second program", 1.05),
         Requirement::new("report: no slower than the second program", 1.05),
         Requirement::new("inspect of free buffers: to the byte scan", 2.0),
         Requirement::new("report on free buffers: to the byte scan", 2.0),
+        Requirement::new("report: to inspect and 20 ns for each line", 1.0),
     ];
     println!("{HEAD}");
     for (size, count) in LARGEST {
@@ -50,7 +60,7 @@ pub fn time_reader() -> [Requirement; 4] {
     requirements
 }
 
-fn time_image(case: &str, image: &Image, is_free: bool, requirements: &mut [Requirement; 4]) {
+fn time_image(case: &str, image: &Image, is_free: bool, requirements: &mut [Requirement; 5]) {
     let faults = faults_found(case, image);
     let bytes = [&image.heap[..], &image.records].concat();
     let copy = bytes.clone();
@@ -73,7 +83,9 @@ fn time_image(case: &str, image: &Image, is_free: bool, requirements: &mut [Requ
     print_row(&row, "inspect", &inspect, &second_inspect, limits);
     print_row(&row, "report", &report, &second_report, limits);
 
-    let [inspect_limit, report_limit, inspect_scan, report_scan] = requirements;
+    let [inspect_limit, report_limit, inspect_scan, report_scan, lines_limit] = requirements;
+    let lines = image.shape.count + OTHER_LINES;
+    lines_limit.add(case, report.ratio(&inspect.plus(LINE * lines as f64)));
     inspect_limit.add(case, inspect.ratio(&second_inspect));
     report_limit.add(case, report.ratio(&second_report));
     if is_free {
@@ -155,30 +167,13 @@ fn report_by_second(image: &Image, output: &mut [u8]) {
     black_box(answer).expect("a lawful image");
 }
 
-/// The most rows a log has.
-const MOST_ROWS: u32 = 1024;
-
 /// Times the latest transaction of the last buffer, with the longest log.
 pub fn time_latest() {
     println!("{SIDES_HEAD}");
-    let mut image = all_free(112, 512);
-    let buffer = image.shape.count - 1;
-    let own_record = image.shape.record_address(buffer);
-    let other_record = image.shape.record_address(0);
-    for (case, named) in [
-        ("each row younger than the one before", own_record),
-        ("no row of the buffer's", other_record),
-    ] {
-        image.log = (1..=MOST_ROWS).flat_map(|t| row(named, t)).collect();
-        let case = format!("latest, 112 x 512, {MOST_ROWS} rows, {case}");
-        time_log(&case, &image, buffer as u32);
+    for (kind, image) in logged() {
+        let case = format!("latest, 112 x 512, {MOST_ROWS} rows, {kind}");
+        time_log(&case, &image, image.shape.count as u32 - 1);
     }
-}
-
-/// A row of the log: record address, uptime, thread, kind.
-fn row(record: u32, uptime: u32) -> Vec<u8> {
-    let words = [record, uptime, 7, 1];
-    words.iter().flat_map(|word| word.to_be_bytes()).collect()
 }
 
 fn time_log(case: &str, image: &Image, buffer: u32) {

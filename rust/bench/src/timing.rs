@@ -27,6 +27,11 @@ impl Times {
         quantile(&self.ratios(other), 2)
     }
 
+    /// The same times, each with so many nanoseconds more.
+    pub fn plus(&self, nanoseconds: f64) -> Times {
+        Times(self.0.iter().map(|time| time + nanoseconds).collect())
+    }
+
     /// Between which two numbers the middle half of the turns' ratios lies.
     pub fn spread(&self, other: &Times) -> (f64, f64) {
         let ratios = self.ratios(other);
