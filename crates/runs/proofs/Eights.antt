@@ -3,7 +3,7 @@ use mathlib.Core.Path.{_≡_, refl, sym, ap, _∙_}
 use mathlib.Core.Bool.{cond}
 use mathlib.Core.List.{List, _++_}
 use Prim.Native.Nat.{ℕ, zero, suc, _+_, _*_, _/_, _%_, _^_, _<_}
-use native.Mathlib.Nat.{add-zero, zero-add, suc-add, pow-suc, pow-succ', one-le-pow, div-one, div-div-eq-div-mul}
+use native.Mathlib.Nat.{zero-add, suc-add, pow-suc, pow-succ', one-le-pow, div-one, div-div-eq-div-mul}
 use native.Mathlib.Decide.{ℕ-discrete}
 use native.Mathlib.Omega.{arith}
 use borrow.Author.Tests.{eq-eqb, ne-eqb}
@@ -12,10 +12,10 @@ use lib.Bits.{bitOr, bitXor, or-add-and, xor-add-and, and-le-l, and-le-r, xor-se
 use lib.Count.{trailingZeros}
 use lib.Dec.{eqb, lit<}
 use Rattle.words.specs.Word.{part, bytesOf}
-use Rattle.runs.specs.Native.{lowBytes}
-use Rattle.runs.specs.Run.{repeated, differenceFrom, difference, BothAlike}
+use Rattle.words.specs.Native.{lowBytes}
+use Rattle.runs.specs.Run.{repeated, differenceFrom, difference, Alike}
 use Rattle.runs.specs.declared.run.Difference.the-variants.{At}
-use Rattle.words.proofs.Parts.{part-two}
+use Rattle.words.proofs.Parts.{part-none, part-two}
 use Rattle.runs.proofs.Runs.{repeated-twice, repeated-add}
 
 -- ---- differences gathered by `|` and made by `^` are none
@@ -92,13 +92,23 @@ low-differs (suc k) i a b ha hb ne =
         let t = trailing-among 8 (k * 8) (bitXor a b) z in
         rw (ne-eqb (a % 256) (b % 256) n, e) (ap At (omega arith))
 
--- eight bytes were loaded, and are not those of v
-pub eight-differs : (l : List ℕ) (at y v : ℕ) → lowBytes 8 y ≡ part l at 8 → y < 256 ^ 8 → v < 256 ^ 8 → (bitXor y v ≡ 0 → ⊥)
-    → difference (part l at 8) (lowBytes 8 v) ≡ At (trailingZeros 64 (bitXor y v) / 8)
-eight-differs l at y v e hy hv ne =
-    rw (← e) (low-differs 8 0 y v hy hv (λ f. ne (ap (λ (z : ℕ). bitXor z v) f ∙ xor-self v)) ∙ ap At (zero-add (trailingZeros 64 (bitXor y v) / 8)))
+-- k bytes were loaded, and are not those of v
+pub loaded-differs : (k : ℕ) (l : List ℕ) (at y v : ℕ) → lowBytes k y ≡ part l at k → y < 256 ^ k → v < 256 ^ k → (bitXor y v ≡ 0 → ⊥)
+    → difference (part l at k) (lowBytes k v) ≡ At (trailingZeros (k * 8) (bitXor y v) / 8)
+loaded-differs k l at y v e hy hv ne =
+    rw (← e)
+    (low-differs k 0 y v hy hv (λ f. ne (ap (λ (z : ℕ). bitXor z v) f ∙ xor-self v)) ∙ ap At (zero-add (trailingZeros (k * 8) (bitXor y v) / 8)))
+
+-- or they are
+pub loaded-same : (k : ℕ) (l : List ℕ) (at y v : ℕ) → lowBytes k y ≡ part l at k → bitXor y v ≡ 0 → part l at k ≡ lowBytes k v
+loaded-same k l at y v e none = sym e ∙ ap (lowBytes k) (xor-none y v none)
 
 -- ---- runs that are compared by eights
+
+-- no bytes are alike
+pub alike-none : (l : List ℕ) (at len w : ℕ) → Alike l at len w 0
+unfolding repeated
+alike-none l at len w = record { within = omega arith; eights = refl; same = part-none l at }
 
 -- a word twice
 pub twice-joined : (w x v : ℕ) → lowBytes 4 x ≡ bytesOf 4 w → lowBytes 8 v ≡ lowBytes 4 x ++ lowBytes 4 x → lowBytes 8 v ≡ repeated 8 w
@@ -110,21 +120,12 @@ pub same-more : (l : List ℕ) (at i p e w : ℕ) → part l at i ≡ repeated i
 same-more l at i p e w es ep pp pe h =
     rw (← pe, repeated-add i 8 w (omega arith), ← part-two l at i 8, es, pp, ep)
 
--- and sixty-four
-module _ (l : List ℕ) (at i w v : ℕ) (ev : lowBytes 8 v ≡ repeated 8 w) (h : i % 8 ≡ 0) where
-  more : (k p e : ℕ) → part l at (i + k) ≡ repeated (i + k) w → part l p 8 ≡ lowBytes 8 v → at + i + k ≡ p → i + k + 8 ≡ e → k % 8 ≡ 0
-      → part l at e ≡ repeated e w
-  more k p e es ep pp pe g = same-more l at (i + k) p e w es (ep ∙ ev) (omega arith) pe (omega arith)
-
-  pub same-block : part l at i ≡ repeated i w
-      → BothAlike l (at + i) v → BothAlike l (at + i + 8) v → BothAlike l (at + i + 16) v → BothAlike l (at + i + 24) v
-      → part l at (i + 64) ≡ repeated (i + 64) w
-  same-block es a b c d =
-      let s = more 0 (at + i) (i + 8) (rw (add-zero i) es) (a .first) (omega arith) (omega arith) refl in
-      let s = more 8 (at + i + 8) (i + 16) s (b .first) refl (omega arith) refl in
-      let s = more 16 (at + i + 16) (i + 24) s (c .first) refl (omega arith) refl in
-      let s = more 24 (at + i + 24) (i + 32) s (d .first) refl (omega arith) refl in
-      let s = more 32 (at + i + 32) (i + 40) s (a .second) refl (omega arith) refl in
-      let s = more 40 (at + i + 8 + 32) (i + 48) s (b .second) (omega arith) (omega arith) refl in
-      let s = more 48 (at + i + 16 + 32) (i + 56) s (c .second) (omega arith) (omega arith) refl in
-      more 56 (at + i + 24 + 32) (i + 64) s (d .second) (omega arith) (omega arith) refl
+-- and thirty-two
+pub same-block : (l : List ℕ) (at i w v : ℕ) → lowBytes 8 v ≡ repeated 8 w → i % 8 ≡ 0 → part l at i ≡ repeated i w
+    → part l (at + i) 8 ≡ lowBytes 8 v → part l (at + i + 8) 8 ≡ lowBytes 8 v → part l (at + i + 16) 8 ≡ lowBytes 8 v
+    → part l (at + i + 24) 8 ≡ lowBytes 8 v → part l at (i + 32) ≡ repeated (i + 32) w
+same-block l at i w v ev h es a b c d =
+    let s = same-more l at i (at + i) (i + 8) w es (a ∙ ev) refl refl h in
+    let s = same-more l at (i + 8) (at + i + 8) (i + 16) w s (b ∙ ev) (omega arith) (omega arith) (omega arith) in
+    let s = same-more l at (i + 16) (at + i + 16) (i + 24) w s (c ∙ ev) (omega arith) (omega arith) (omega arith) in
+    same-more l at (i + 24) (at + i + 24) (i + 32) w s (d ∙ ev) (omega arith) (omega arith) (omega arith)

@@ -104,6 +104,10 @@ within k (x ∷ xs) (y ∷ ys) o e = go (eqb x y) (within (suc k) xs ys o) e
 pub differs-within : (xs ys : List ℕ) (o : ℕ) → difference xs ys ≡ At o → o < length xs
 differs-within xs ys o e = omega (arith, within 0 xs ys o e)
 
+-- and so one of the part that was compared
+pub part-within : (l : List ℕ) (at n : ℕ) (ys : List ℕ) (r : Difference) (o : ℕ) → at + n ≤ length l → r ≡ difference (part l at n) ys → r ≡ At o → o < n
+part-within l at n ys r o h e g = omega (arith, differs-within (part l at n) ys o (sym e ∙ g), length-part l at n h)
+
 -- lists of one length that differ nowhere are the same
 same-from : (k : ℕ) (xs ys : List ℕ) → length xs ≡ length ys → differenceFrom k xs ys ≡ Nowhere → xs ≡ ys
 unfolding differenceFrom
@@ -221,7 +225,15 @@ module _ (s : List ℕ) (at len w : ℕ) (fits : at + len ≤ length s) where
 
   -- a place at which the run differs is a place of the run
   pub run-within : (o : ℕ) (d : Difference) → d ≡ difference (part s at len) (repeated len w) → d ≡ At o → o < len
-  run-within o d e g = omega (arith, differs-within (part s at len) (repeated len w) o (sym e ∙ g), length-part s at len fits)
+  run-within o d e g = part-within s at len (repeated len w) d o fits e g
+
+-- the first i bytes of a run repeat the word, and in the n behind them there is a difference
+pub run-among : (s : List ℕ) (at len w : ℕ) → at + len ≤ length s → (i n o : ℕ) (vs : List ℕ) (r : Difference) → i + n ≤ len → i % 4 ≡ 0 → n % 4 ≡ 0
+    → part s at i ≡ repeated i w → r ≡ difference (part s (at + i) n) vs → vs ≡ repeated n w → r ≡ At o
+    → At (i + o) ≡ difference (part s at len) (repeated len w)
+run-among s at len w fits i n o vs r h m q e er ev ed =
+    run-behind s at len w fits i (At o) (At o) (omega arith) m e
+    (run-front s (at + i) (len - i) w (omega arith) n vs r (omega arith) er ev o q ed) refl
 
 -- the word 0 again and again is 0 again and again
 zero-byte : (k : ℕ) → getD (bytesOf 4 0) k 0 ≡ 0

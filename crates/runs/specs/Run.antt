@@ -6,7 +6,6 @@ use Prim.Native.Nat.{ℕ, zero, suc, _+_, _%_, _≤_}
 use lib.Dec.{eqb}
 use lib.ListN.{getD}
 use Rattle.words.specs.Word.{part, bytesOf}
-use Rattle.runs.specs.Native.{lowBytes}
 use Rattle.runs.specs.declared.run.Difference.{Difference}
 use Rattle.runs.specs.declared.run.Difference.the-variants.{At, Nowhere}
 
@@ -32,8 +31,3 @@ pub record Alike (l : List ℕ) (at len w i : ℕ) : Type 0 where
   pub within : i ≤ len
   pub eights : i % 8 ≡ 0
   pub same : part l at i ≡ repeated i w
-
--- two eights of bytes, 32 apart, are those of v
-pub record BothAlike (l : List ℕ) (at v : ℕ) : Type 0 where
-  pub first : part l at 8 ≡ lowBytes 8 v
-  pub second : part l (at + 32) 8 ≡ lowBytes 8 v

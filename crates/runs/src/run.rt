@@ -6,7 +6,7 @@ ghost use lib.Seq.{sets};
 ghost use Rattle.words.specs.Word.{part};
 ghost use Rattle.runs.specs.Run.{repeated, difference};
 use crate::eight;
-use crate::native;
+use words::native;
 use words::word;
 
 // Where two runs of bytes differ first, counted from their start.
@@ -29,34 +29,64 @@ pub fn fill(s: &mut [u8], at: usize, len: usize, w: u32)
     }
 }
 
-// The first place at which `len` bytes from an offset on differ from a word again and again.
+// The first place at which the four bytes at an offset differ from a word. The lowest bit that differs lies in the first byte that
+// does.
+pub fn word_difference(s: &[u8], at: usize, w: u32) -> Difference
+    requires { ⌜ at + 4 ≤ length (now s) ⌝ }
+    ensures { λ r. ⌜ r ≡ difference (part (now (s .entry)) at 4) (repeated 4 w) ⌝ }
+{
+    let x = native::load4(s, at) ^ native::swap4(w);
+    if x == 0 {
+        return Difference::Nowhere;
+    }
+    Difference::At((u32::trailing_zeros(x) / 8) as usize)
+}
+
+// The first place at which the eight bytes at an offset differ from a word twice.
+pub fn two_words_difference(s: &[u8], at: usize, w: u32) -> Difference
+    requires { ⌜ at + 8 ≤ length (now s) ⌝ }
+    ensures { λ r. ⌜ r ≡ difference (part (now (s .entry)) at 8) (repeated 8 w) ⌝ }
+{
+    eight::difference_at(s, at, eight::twice(w))
+}
+
+// The first place at which `len` bytes from an offset on differ from a word again and again: whole eights, and then the last few.
 pub fn first_difference(s: &[u8], at: usize, len: usize, w: u32) -> Difference
     requires { ⌜ at + len ≤ length (now s) ⌝ }
     ensures { λ r. ⌜ r ≡ difference (part (now (s .entry)) at len) (repeated len w) ⌝ }
 {
-    if 8 <= len {
-        return difference_by_eights(s, at, len, w);
+    if len < 8 {
+        return difference_by_bytes(s, at, len, w);
     }
-    difference_by_bytes(s, at, len, w)
-}
-
-// The same, eight bytes at a time. The first eight, where most hurts are, are tested before the others; the last few, and the
-// eight that differ, are narrowed down byte by byte.
-fn difference_by_eights(s: &[u8], at: usize, len: usize, w: u32) -> Difference
-    requires { ⌜ at + len ≤ length (now s) ⌝ }
-    requires { ⌜ 8 ≤ len ⌝ }
-    ensures { λ r. ⌜ r ≡ difference (part (now (s .entry)) at len) (repeated len w) ⌝ }
-{
-    let head = eight::difference_at(s, at, eight::twice(w));
-    if let Difference::At(o) = head {
+    let whole = len / 8 * 8;
+    let eights = difference_by_eights(s, at, whole, w);
+    if let Difference::At(o) = eights {
         return Difference::At(o);
     }
-    let i = eight::alike(s, at, len, w);
-    let rest = difference_by_bytes(s, at + i, len - i, w);
+    let rest = difference_by_bytes(s, at + whole, len - whole, w);
     match rest {
-        Difference::At(o) => Difference::At(i + o),
+        Difference::At(o) => Difference::At(whole + o),
         Difference::Nowhere => Difference::Nowhere,
     }
+}
+
+// The same of whole eights, as a buffer has them: blocks that are sure to repeat the word are passed over.
+pub fn difference_by_eights(s: &[u8], at: usize, len: usize, w: u32) -> Difference
+    requires { ⌜ at + len ≤ length (now s) ⌝ }
+    requires { ⌜ 8 ≤ len ⌝ }
+    requires { ⌜ len % 8 ≡ 0 ⌝ }
+    ensures { λ r. ⌜ r ≡ difference (part (now (s .entry)) at len) (repeated len w) ⌝ }
+{
+    let v = eight::twice(w);
+    let mut i = eight::alike_blocks(s, at, len, w);
+    while i < len {
+        let d = eight::difference_at(s, at + i, v);
+        if let Difference::At(o) = d {
+            return Difference::At(i + o);
+        }
+        i += 8;
+    }
+    Difference::Nowhere
 }
 
 // The same, one byte after the other.

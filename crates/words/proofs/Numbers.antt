@@ -47,30 +47,6 @@ pub one-read : (l : List ℕ) (at : ℕ) → at + 1 ≤ length l → getD l at 0
 unfolding numberAt number
 one-read l at h = rw (part-cons l at 0 (omega arith), part-none l (at + 1)) (omega arith)
 
-pub two-read : (l : List ℕ) (at : ℕ) → at + 2 ≤ length l → number (getD l at 0 ∷ getD l (at + 1) 0 ∷ []) ≡ numberAt 2 l at
-unfolding numberAt
-two-read l at h = rw (part-cons l at 1 (omega arith), part-cons l (at + 1) 0 (omega arith), part-none l (at + 1 + 1))
-
-pub four-read : (l : List ℕ) (at : ℕ) → at + 4 ≤ length l
-    → number (getD l at 0 ∷ getD l (at + 1) 0 ∷ getD l (at + 2) 0 ∷ getD l (at + 3) 0 ∷ []) ≡ numberAt 4 l at
-unfolding numberAt
-four-read l at h =
-    let e : at + 1 + 1 ≡ at + 2 = omega arith in
-    let f : at + 2 + 1 ≡ at + 3 = omega arith in
-    rw (
-      part-cons l at 3 (omega arith),
-      part-cons l (at + 1) 2 (omega arith),
-      e,
-      part-cons l (at + 2) 1 (omega arith),
-      f,
-      part-cons l (at + 3) 0 (omega arith),
-      part-none l (at + 3 + 1),
-    )
-
-pub two-bytes : (v a b : ℕ) → a ≡ v / 256 % 256 → b ≡ v % 256 → a ∷ b ∷ [] ≡ bytesOf 2 v
-unfolding bytesOf
-two-bytes v a b ea eb = rw (ea, eb, div-one)
-
 pub four-bytes : (v a b c d : ℕ) → a ≡ v / 16777216 % 256 → b ≡ v / 65536 % 256 → c ≡ v / 256 % 256 → d ≡ v % 256
     → a ∷ b ∷ c ∷ d ∷ [] ≡ bytesOf 4 v
 unfolding bytesOf
@@ -95,16 +71,3 @@ four-first v a b c d ha eb ec ed = sym (four-back a b c d ha (omega arith) (omeg
 pub one-store : (l : List ℕ) (at v : ℕ) → v < 256 → set l at v ≡ sets l at (bytesOf 1 v)
 unfolding bytesOf
 one-store l at v h = let e : v / 1 % 256 ≡ v = omega arith in rw e
-
-pub two-stores : (l b : List ℕ) (at v : ℕ) → b ≡ bytesOf 2 v → set (set l at (getD b 0 0)) (at + 1) (getD b 1 0) ≡ sets l at (bytesOf 2 v)
-unfolding bytesOf
-two-stores l b at v e = rw (e, add-one)
-
-pub four-stores : (l b : List ℕ) (at v : ℕ) → b ≡ bytesOf 4 v
-    → set (set (set (set l at (getD b 0 0)) (at + 1) (getD b 1 0)) (at + 2) (getD b 2 0)) (at + 3) (getD b 3 0) ≡ sets l at (bytesOf 4 v)
-unfolding bytesOf
-four-stores l b at v e =
-    let f : at + 1 ≡ suc at = omega arith in
-    let g : at + 2 ≡ suc (suc at) = omega arith in
-    let h : at + 3 ≡ suc (suc (suc at)) = omega arith in
-    rw (e, f, g, h)

@@ -1,3 +1,4 @@
 pub mod Word
+pub mod Native
 pub mod Age
 pub mod Sum

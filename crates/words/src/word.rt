@@ -1,17 +1,12 @@
-// Numbers of one, two and four bytes in a slice, the first byte the highest.
+// Numbers of one, two and four bytes in a slice, the first byte the highest. They are loaded and stored as the machine has them, and
+// turned: so a read is one load and one swap before the compiler looks at the function that it stands in.
 ghost use mathlib.Core.Path.{_≡_};
 ghost use mathlib.Core.List.{[], _∷_};
 ghost use Prim.Native.Nat.{_+_, _*_, _%_, _≤_};
 ghost use lib.ListN.{length, set};
 ghost use lib.Seq.{sets};
 ghost use Rattle.words.specs.Word.{number, numberAt, bytesOf};
-
-// The number of two bytes.
-fn join2(a: u8, b: u8) -> u16
-    ensures { λ r. ⌜ r ≡ number (a ∷ b ∷ []) ⌝ }
-{
-    (a as u16) * 256 + (b as u16)
-}
+use crate::native;
 
 // The number of four bytes.
 fn join4(a: u8, b: u8, c: u8, d: u8) -> u32
@@ -25,13 +20,6 @@ fn low(w: u32) -> u8
     ensures { λ r. ⌜ r ≡ w % 256 ⌝ }
 {
     (w % 256) as u8
-}
-
-// The two bytes of a number.
-fn bytes2(v: u16) -> [u8; 2]
-    ensures { λ r. ⌜ r ≡ bytesOf 2 v ⌝ }
-{
-    [low(v as u32 / 256), low(v as u32)]
 }
 
 // The four bytes of a number.
@@ -61,7 +49,7 @@ pub fn read_u16(s: &[u8], at: usize) -> u16
     requires { ⌜ at + 2 ≤ length (now s) ⌝ }
     ensures { λ r. ⌜ r ≡ numberAt 2 (now (s .entry)) at ⌝ }
 {
-    join2(s[at], s[at + 1])
+    native::swap2(native::load2(s, at))
 }
 
 // The number of the four bytes from an offset on.
@@ -69,7 +57,7 @@ pub fn read_u32(s: &[u8], at: usize) -> u32
     requires { ⌜ at + 4 ≤ length (now s) ⌝ }
     ensures { λ r. ⌜ r ≡ numberAt 4 (now (s .entry)) at ⌝ }
 {
-    join4(s[at], s[at + 1], s[at + 2], s[at + 3])
+    native::swap4(native::load4(s, at))
 }
 
 // Writes one byte at an offset.
@@ -85,9 +73,7 @@ pub fn write_u16(s: &mut [u8], at: usize, v: u16)
     requires { ⌜ at + 2 ≤ length (now s) ⌝ }
     ensures { λ _. ⌜ now (s .exit) ≡ sets (now (s .entry)) at (bytesOf 2 v) ⌝ }
 {
-    let b = bytes2(v);
-    s[at] = b[0];
-    s[at + 1] = b[1];
+    native::store2(s, at, native::swap2(v));
 }
 
 // Writes the four bytes of a number from an offset on.
@@ -95,9 +81,5 @@ pub fn write_u32(s: &mut [u8], at: usize, v: u32)
     requires { ⌜ at + 4 ≤ length (now s) ⌝ }
     ensures { λ _. ⌜ now (s .exit) ≡ sets (now (s .entry)) at (bytesOf 4 v) ⌝ }
 {
-    let b = bytes4(v);
-    s[at] = b[0];
-    s[at + 1] = b[1];
-    s[at + 2] = b[2];
-    s[at + 3] = b[3];
+    native::store4(s, at, native::swap4(v));
 }
