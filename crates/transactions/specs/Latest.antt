@@ -30,10 +30,13 @@ rowNames log a k = eqb (rowRecord log k) a
 abbrev pub rowAge : List ℕ → ℕ → ℕ → ℕ
 rowAge log time k = ageOf 32 time (rowUptime log k)
 
--- L3 (of equal ages, the later row): row k takes the place of what was latest before it if it names the record and is not older
+-- L3 (of equal ages, the later row): row k names the record and is not older than an age
+abbrev pub rowLater : List ℕ → ℕ → ℕ → ℕ → ℕ → Bool
+rowLater log a time k least = rowNames log a k && leb (rowAge log time k) least
+
+-- L3: such a row takes the place of what was latest before it
 unfoldable pub considered : List ℕ → ℕ → ℕ → ℕ → Best → Best
-considered log a time k b =
-    cond (rowNames log a k && leb (rowAge log time k) (b .age)) (record { row = place.At k; age = rowAge log time k }) b
+considered log a time k b = cond (rowLater log a time k (b .age)) (record { row = place.At k; age = rowAge log time k }) b
 
 -- L3 (the smallest age): the latest of what was latest before and the first n rows, one after the other
 unfoldable pub latestRow : List ℕ → ℕ → ℕ → Best → ℕ → Best
@@ -43,6 +46,10 @@ latestRow log a time b (suc k) = considered log a time k (latestRow log a time b
 -- L2, L3 (of equal ages, a row before the record): before any row it is the record, by the low half of its stamp
 abbrev pub firstBest : ℕ → ℕ → Best
 firstBest stamp time = record { row = place.Nowhere; age = ageOf 32 time stamp }
+
+-- of the code's own steps, in no rule: what is latest by numbers alone, its row among n, where n stands for no row, and its age
+abbrev pub bestOf : ℕ → ℕ → ℕ → Best
+bestOf found n age = record { row = cond (eqb found n) place.Nowhere (place.At found); age = age }
 
 -- L4 (a row, or else record j)
 abbrev pub rowOrRecord : Place → ℕ → Transaction

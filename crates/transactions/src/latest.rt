@@ -7,7 +7,7 @@ ghost use Rattle.log.specs.Log.{rowSize, logMost};
 ghost use Rattle.geometry.specs.Sheet.{recordsLength};
 ghost use Rattle.geometry.specs.Limits.{Lawful};
 ghost use Rattle.sheet.specs.Areas.{before};
-ghost use Rattle.transactions.specs.Latest.{considered, latestRow, firstBest, ownedLatest, indexedLatest, latestOf, latestPart, LatestPlace};
+ghost use Rattle.transactions.specs.Latest.{rowLater, bestOf, latestRow, firstBest, ownedLatest, indexedLatest, latestOf, latestPart, LatestPlace};
 use area::place::Place;
 use area::record;
 use chain::pairing;
@@ -33,39 +33,50 @@ pub enum Transaction {
     Refused(Refusal),
 }
 
-// What is latest once row k of the log is considered, for the record at an address.
-fn consider(log: &[u8], k: usize, record_at: u32, time: u32, best: Best) -> Best
+// Whether row k of the log is of the record at an address and no older than `least`.
+fn is_later(log: &[u8], k: usize, record_at: u32, time: u32, least: u32) -> bool
     requires { ⌜ k * rowSize + rowSize ≤ length (now log) ⌝ }
-    ensures { λ r. ⌜ r ≡ considered (now (log .entry)) «record_at» time k best ⌝ }
+    ensures { λ r. ⌜ r ≡ rowLater (now (log .entry)) «record_at» time k least ⌝ }
 {
     if log::row_record(log, k) != record_at {
-        return best;
+        return false;
     }
-    let a = age::age(time, log::row_uptime(log, k));
-    if best.age < a {
-        return best;
+    age::age(time, log::row_uptime(log, k)) <= least
+}
+
+// What is latest, of the number of its row among n, which is n where no row was found, and of its age.
+fn best_of(found: usize, n: usize, age: u32) -> Best
+    ensures { λ r. ⌜ r ≡ bestOf found n age ⌝ }
+{
+    if found == n {
+        return Best {
+            row: Place::Nowhere,
+            age,
+        };
     }
     Best {
-        row: Place::At(k),
-        age: a,
+        row: Place::At(found),
+        age,
     }
 }
 
-// What is latest of the record at an address, whose own stamp is given, and of the first n rows of the log.
+// What is latest of the record at an address, whose own stamp is given, and of the first n rows of the log. The loop keeps the row as
+// a number, n where there is none: a loop over numbers alone is compiled to one loop, and one over a Best was compiled to two.
 fn latest_row(log: &[u8], n: usize, record_at: u32, stamp: u32, time: u32) -> Best
     requires { ⌜ n * rowSize ≤ length (now log) ⌝ }
     ensures { λ r. ⌜ r ≡ latestRow (now (log .entry)) «record_at» time (firstBest stamp time) n ⌝ }
 {
-    let mut best = Best {
-        row: Place::Nowhere,
-        age: age::age(time, stamp),
-    };
+    let mut found = n;
+    let mut least = age::age(time, stamp);
     let mut k = 0;
     while k < n {
-        best = consider(log, k, record_at, time, best);
+        if is_later(log, k, record_at, time, least) {
+            found = k;
+            least = age::age(time, log::row_uptime(log, k));
+        }
         k += 1;
     }
-    best
+    best_of(found, n, least)
 }
 
 // The latest transaction of the buffer whose own record is j.
