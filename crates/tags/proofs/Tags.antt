@@ -4,11 +4,11 @@ use mathlib.Core.Bool.{Bool, true, false, _&&_, and-eq-true-iff, cond}
 use Prim.Native.Nat.{ℕ, zero, suc, _+_, _-_, _*_, _/_, _%_, _≤_, _<_}
 use native.Mathlib.Nat.{mod-lt, div-add-mod', zero-lt-suc}
 use native.Mathlib.Omega.{arith}
-use borrow.Author.Tests.{le-leb, leb-true}
+use borrow.Author.Tests.{le-leb, leb-true, eqb-true}
 use lib.Arith.{bin-ind}
 use lib.Bits.{bitXor, differ, xor-step, xor-shr, xor-mod}
 use lib.Dec.{eqb, leb}
-use Rattle.tags.specs.Tag.{tagOf, patternOf, patternWord, stateWord}
+use Rattle.tags.specs.Tag.{tagOf, patternOf, patternWord, stateWord, freePattern, allocatedPattern, isFree, isAllocated}
 use Rattle.tags.specs.SizeCode.{codeOf, decodedOf}
 use Rattle.tags.specs.declared.tag.State.{State}
 use Rattle.tags.specs.declared.size_code.Decoded.the-variants.{Size, Bad}
@@ -61,6 +61,41 @@ tag-pattern a s = ap patternWord (tag-word a s) ∙ known s
     known : (s : State) → patternWord (stateWord s) ≡ statePattern s
     known state.Free = refl
     known state.Allocated = refl
+
+-- a word's pattern is the free one, or the allocated one, where the word is
+pub free-word : (x : ℕ) → eqb x freePattern ≡ isFree (patternWord x)
+unfolding patternWord
+free-word x = go (eqb x freePattern) (eqb x allocatedPattern)
+  where
+    go : (f a : Bool) → f ≡ isFree (cond f pattern.Free (cond a pattern.Allocated pattern.Neither))
+    go true a = refl
+    go false true = refl
+    go false false = refl
+
+pub allocated-word : (x : ℕ) → eqb x allocatedPattern ≡ isAllocated (patternWord x)
+unfolding patternWord
+allocated-word x = go (eqb x freePattern) (eqb x allocatedPattern) (λ e. rw (eqb-true x freePattern e))
+  where
+    go : (f a : Bool) → (f ≡ true → a ≡ false) → a ≡ isAllocated (cond f pattern.Free (cond a pattern.Allocated pattern.Neither))
+    go true a e = e refl
+    go false true e = refl
+    go false false e = refl
+
+-- the pattern that the two tests tell
+pub is-free : (p : Pattern) → isFree p ≡ true → p ≡ pattern.Free
+is-free pattern.Free e = refl
+is-free pattern.Allocated e = absurd (let z : _≡_ {A = ℕ} 0 1 = cc in omega arith)
+is-free pattern.Neither e = absurd (let z : _≡_ {A = ℕ} 0 1 = cc in omega arith)
+
+pub is-allocated : (p : Pattern) → isAllocated p ≡ true → p ≡ pattern.Allocated
+is-allocated pattern.Free e = absurd (let z : _≡_ {A = ℕ} 0 1 = cc in omega arith)
+is-allocated pattern.Allocated e = refl
+is-allocated pattern.Neither e = absurd (let z : _≡_ {A = ℕ} 0 1 = cc in omega arith)
+
+pub is-neither : (p : Pattern) → isFree p ≡ false → isAllocated p ≡ false → p ≡ pattern.Neither
+is-neither pattern.Free e f = absurd (let z : _≡_ {A = ℕ} 0 1 = cc in omega arith)
+is-neither pattern.Allocated e f = absurd (let z : _≡_ {A = ℕ} 0 1 = cc in omega arith)
+is-neither pattern.Neither e f = refl
 
 -- ---- the size code
 

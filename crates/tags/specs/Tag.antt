@@ -1,5 +1,5 @@
 -- The tag of a chunk. Assumes nothing.
-use mathlib.Core.Bool.{cond}
+use mathlib.Core.Bool.{Bool, true, false, cond}
 use Prim.Native.Nat.{ℕ}
 use lib.Bits.{bitXor}
 use lib.Dec.{eqb}
@@ -32,3 +32,18 @@ patternWord x = cond (eqb x freePattern) pattern.Free (cond (eqb x allocatedPatt
 -- C3 (the pattern of T0 xor T1)
 unfoldable pub patternOf : Tag → Pattern
 patternOf t = patternWord (bitXor (t .t0) (t .t1))
+
+abbrev pub isFree : Pattern → Bool
+isFree pattern.Free = true
+isFree pattern.Allocated = false
+isFree pattern.Neither = false
+
+abbrev pub isAllocated : Pattern → Bool
+isAllocated pattern.Free = false
+isAllocated pattern.Allocated = true
+isAllocated pattern.Neither = false
+
+abbrev pub isNeither : Pattern → Bool
+isNeither pattern.Free = false
+isNeither pattern.Allocated = false
+isNeither pattern.Neither = true

@@ -1,7 +1,8 @@
 -- The number and the value of each verdict. Assumes nothing.
-use mathlib.Core.Bool.{Bool, _||_}
+use mathlib.Core.Bool.{Bool, _||_, cond}
 use Prim.Native.Nat.{ℕ}
 use lib.Dec.{eqb, leb}
+use Rattle.tags.specs.declared.verdict.Told.{Told}
 use Rattle.tags.specs.declared.verdict.Verdict.{Verdict}
 use Rattle.tags.specs.declared.verdict.Verdict.the-variants.{Free, Whole, Allocated, NotOneRecord, BadTag, FreedTwice, OffChain, OnChain, BadFill, BadRedzone, BadSizeCode, Overrun}
 
@@ -34,6 +35,25 @@ verdictValue (BadFill o) = o
 verdictValue (BadRedzone o) = o
 verdictValue BadSizeCode = 0
 verdictValue (Overrun o) = o
+
+-- J8 (a verdict as numbers): its number and its value
+abbrev pub toldOf : Verdict → Told
+toldOf v = record { number = verdictNumber v; value = verdictValue v }
+
+-- J8 read back (the verdict that a number and a value tell): that of the number, with the value where it has one; any other number is read as 28
+unfoldable pub ofTold : Told → Verdict
+ofTold t =
+    cond (eqb (t .number) 0) Free
+    (cond (eqb (t .number) 1) Whole
+    (cond (eqb (t .number) 2) (Allocated (t .value))
+    (cond (eqb (t .number) 20) NotOneRecord
+    (cond (eqb (t .number) 21) BadTag
+    (cond (eqb (t .number) 22) FreedTwice
+    (cond (eqb (t .number) 23) OffChain
+    (cond (eqb (t .number) 24) OnChain
+    (cond (eqb (t .number) 25) (BadFill (t .value))
+    (cond (eqb (t .number) 26) (BadRedzone (t .value))
+    (cond (eqb (t .number) 27) BadSizeCode (Overrun (t .value))))))))))))
 
 -- ---- what a verdict says, by its number
 

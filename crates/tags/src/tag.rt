@@ -1,6 +1,6 @@
 // The last two words of a chunk: T0, the record's address, and T1, such that T0 xor T1 is one of two patterns.
 ghost use mathlib.Core.Path.{_≡_};
-ghost use Rattle.tags.specs.Tag.{tagOf, patternOf};
+ghost use Rattle.tags.specs.Tag.{tagOf, patternOf, isFree, isAllocated};
 
 // What a tag is made for.
 pub enum State {
@@ -53,5 +53,19 @@ impl Tag {
             return Pattern::Allocated;
         }
         Pattern::Neither
+    }
+
+    // Whether the pattern is the free one.
+    pub fn is_free(self) -> bool
+        ensures { λ r. ⌜ r ≡ isFree (patternOf self) ⌝ }
+    {
+        self.t0 ^ self.t1 == Tag::FREE
+    }
+
+    // Whether the pattern is the allocated one.
+    pub fn is_allocated(self) -> bool
+        ensures { λ r. ⌜ r ≡ isAllocated (patternOf self) ⌝ }
+    {
+        self.t0 ^ self.t1 == Tag::ALLOCATED
     }
 }

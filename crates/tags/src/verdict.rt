@@ -1,6 +1,6 @@
 // What is found of a buffer.
 ghost use mathlib.Core.Path.{_≡_};
-ghost use Rattle.tags.specs.Verdict.{verdictNumber, verdictValue};
+ghost use Rattle.tags.specs.Verdict.{verdictNumber, verdictValue, toldOf, ofTold};
 
 // Document 01's verdicts, in the order of their numbers. A size is that of the grant; an offset is that of the first byte
 // that differs, from the buffer's start.
@@ -17,6 +17,12 @@ pub enum Verdict {
     BadRedzone(u32),
     BadSizeCode,
     Overrun(u32),
+}
+
+// A verdict as numbers: its own, and its size or offset, 0 where it carries none.
+pub struct Told {
+    pub number: u32,
+    pub value: u32,
 }
 
 // The number of a verdict.
@@ -56,5 +62,36 @@ pub fn value(v: Verdict) -> u32
         Verdict::OffChain => 0,
         Verdict::OnChain => 0,
         Verdict::BadSizeCode => 0,
+    }
+}
+
+// A verdict as numbers.
+pub fn tell(v: Verdict) -> Told
+    ensures { λ r. ⌜ r ≡ toldOf v ⌝ }
+{
+    Told {
+        number: number(v),
+        value: value(v),
+    }
+}
+
+// The verdict that numbers tell.
+pub fn of(t: Told) -> Verdict
+    ensures { λ r. ⌜ r ≡ ofTold t ⌝ }
+{
+    let n = t.number;
+    match n {
+        0 => Verdict::Free,
+        1 => Verdict::Whole,
+        2 => Verdict::Allocated(t.value),
+        20 => Verdict::NotOneRecord,
+        21 => Verdict::BadTag,
+        22 => Verdict::FreedTwice,
+        23 => Verdict::OffChain,
+        24 => Verdict::OnChain,
+        25 => Verdict::BadFill(t.value),
+        26 => Verdict::BadRedzone(t.value),
+        27 => Verdict::BadSizeCode,
+        _ => Verdict::Overrun(t.value),
     }
 }
