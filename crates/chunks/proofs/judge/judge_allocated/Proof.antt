@@ -2,6 +2,7 @@
 use mathlib.Core.Path.{sym, _∙_}
 use borrow.Author.Tests.{eq-eqb, ne-eqb}
 use borrow.Author.Needs.{needs}
+use Rattle.tags.specs.declared.verdict.Verdict.the-variants.{Whole}
 use Rattle.tags.proofs.Tags.{decoded-within}
 use Rattle.chunks.specs.Judge.{allocatedVerdict}
 use Rattle.chunks.proofs.judge.judge_allocated.Statement.{statement}
@@ -9,7 +10,9 @@ use Rattle.chunks.proofs.judge.judge_allocated.Tie as tie
 
 returns : tie.Need-returns
 unfolding allocatedVerdict
-returns c = rw (← c .before .before .read-u32 .ensures, eq-eqb _ _ (c .before .if1 .taken)) (c .judge-zone .ensures)
+returns c =
+    let i = c .before .before in
+    rw (← i .before .read-u32 .ensures, eq-eqb _ _ (i .if1 .taken)) (c .judge-zone .ensures Whole (c .before .tell .ensures))
 
 judge-sized-requires : tie.Need-judge-sized-requires
 judge-sized-requires c κs = (search needs, decoded-within _ _ _ (sym (c .before .before .before .decode .ensures) ∙ c .before .code .given .1) .1)
@@ -17,19 +20,22 @@ judge-sized-requires c κs = (search needs, decoded-within _ _ _ (sym (c .before
 returns-2 : tie.Need-returns-2
 unfolding allocatedVerdict
 returns-2 c =
-    let i = c .before .before .before in
-    rw (← i .before .read-u32 .ensures, ne-eqb _ _ (i .if1 .left), ← c .before .before .decode .ensures, c .enum-told .given .1)
+    let e = c .before in
+    let d = e .before .before in
+    let i = d .before in
+    rw (← i .before .read-u32 .ensures, ne-eqb _ _ (i .if1 .left), ← d .decode .ensures, e .enum-told .given .1) (c .tell2 .ensures)
 
 returns-3 : tie.Need-returns-3
 unfolding allocatedVerdict
 returns-3 c =
     let m = c .before .before in
-    let i = m .before .before .before in
-    rw (← i .before .read-u32 .ensures, ne-eqb _ _ (i .if1 .left), ← m .before .before .decode .ensures, m .code .given .1) (c .judge-sized .ensures)
+    let d = m .before .before in
+    let i = d .before in
+    rw (← i .before .read-u32 .ensures, ne-eqb _ _ (i .if1 .left), ← d .decode .ensures, m .code .given .1) (c .judge-sized .ensures)
 
 pub judge-allocated-spec : {M : Type 1} → statement M
 judge-allocated-spec =
     tie.close
     (tie.spec
-    (λ c. search needs) (λ c. search needs) (λ c κs. search needs) (λ c κs. search needs) returns (λ c. search needs) (λ c κs. search needs)
-    (λ c. search needs) (λ c. search needs) judge-sized-requires returns-2 returns-3)
+    (λ c. search needs) (λ c. search needs) (λ c κs. search needs) (λ c κs. search needs) (λ c κs. search needs) returns
+    (λ c. search needs) (λ c κs. search needs) (λ c. search needs) (λ c κs. search needs) (λ c. search needs) judge-sized-requires returns-2 returns-3)

@@ -12,7 +12,9 @@ cast-t8 c = omega (arith, run-within _ _ _ _ (omega arith) _ _ (c .before .befor
 
 returns : tie.Need-returns
 unfolding freeVerdict
-returns c = rw (← c .before .before .before .first-difference .ensures, c .before .fill .given .1)
+returns c =
+    let f = c .before .before in
+    rw (← f .before .before .first-difference .ensures, f .fill .given .1) (c .tell .ensures)
 
 -- the difference lies in the redzone
 zone-inside : (c : tie.After-known-told2) → c .before .zone .given .0 .0 < 8
@@ -21,18 +23,23 @@ zone-inside c = run-within _ _ _ _ (omega arith) _ _ (c .before .before .before 
 returns-2 : tie.Need-returns-2
 unfolding freeVerdict
 returns-2 c =
-    let d = c .before .before .before in
-    rw (← d .before .before .before .first-difference .ensures, d .before .enum-told .given .1, ← d .first-difference2 .ensures, c .before .zone .given .1)
+    let z = c .before .before in
+    let d = z .before .before in
+    rw (← d .before .before .before .first-difference .ensures, d .before .enum-told .given .1, ← d .first-difference2 .ensures, z .zone .given .1)
+    (c .tell2 .ensures)
 
 returns-3 : tie.Need-returns-3
 unfolding freeVerdict
 returns-3 c =
-    let d = c .before .before in
-    rw (← d .before .before .before .first-difference .ensures, d .before .enum-told .given .1, ← d .first-difference2 .ensures, c .enum-told2 .given .1)
+    let z = c .before in
+    let d = z .before .before in
+    rw (← d .before .before .before .first-difference .ensures, d .before .enum-told .given .1, ← d .first-difference2 .ensures, z .enum-told2 .given .1)
+    (c .tell3 .ensures)
 
 pub judge-free-spec : {M : Type 1} → statement M
 judge-free-spec =
     tie.close
     (tie.spec
-    (λ c. search needs) (λ c κs. search needs) (λ c. search needs) cast-t8 returns (λ c. search needs) (λ c κs. search needs)
-    (λ c. search needs) (λ c. omega (arith, zone-inside c)) (λ c. omega (arith, zone-inside c)) (λ c. search needs) returns-2 returns-3)
+    (λ c. search needs) (λ c κs. search needs) (λ c. search needs) cast-t8 (λ c κs. search needs) returns (λ c. search needs)
+    (λ c κs. search needs) (λ c. search needs) (λ c. omega (arith, zone-inside c)) (λ c. omega (arith, zone-inside c)) (λ c κs. search needs)
+    (λ c. search needs) (λ c κs. search needs) returns-2 returns-3)

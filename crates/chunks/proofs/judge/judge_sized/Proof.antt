@@ -1,6 +1,7 @@
 -- The guard byte comes first, then R0, on whose first byte the guard stands where s is the buffer's size. Assumes nothing.
 use borrow.Author.Tests.{eq-eqb, ne-eqb}
 use borrow.Author.Needs.{needs}
+use Rattle.tags.specs.declared.verdict.Verdict.the-variants.{Allocated}
 use Rattle.chunks.specs.Judge.{sizedVerdict}
 use Rattle.chunks.proofs.judge.judge_sized.Statement.{statement}
 use Rattle.chunks.proofs.judge.judge_sized.Tie as tie
@@ -8,17 +9,23 @@ use Rattle.chunks.proofs.judge.judge_sized.Tie as tie
 returns-2 : tie.Need-returns-2
 unfolding sizedVerdict
 returns-2 c =
-    let i = c .before .before in
-    rw (eq-eqb _ _ (i .before .if1 .left), eq-eqb _ _ (i .if2 .taken), ← c .before .with-first .ensures) (c .judge-zone .ensures)
+    let w = c .before .before in
+    let i = w .before in
+    rw (eq-eqb _ _ (i .before .if1 .left), eq-eqb _ _ (i .if2 .taken), ← w .with-first .ensures)
+    (c .judge-zone .ensures (Allocated _) (c .before .tell2 .ensures))
 
 returns-3 : tie.Need-returns-3
 unfolding sizedVerdict
-returns-3 c = rw (eq-eqb _ _ (c .before .before .if1 .left), ne-eqb _ _ (c .before .if2 .left)) (c .judge-zone2 .ensures)
+returns-3 c =
+    let i = c .before .before in
+    rw (eq-eqb _ _ (i .before .if1 .left), ne-eqb _ _ (i .if2 .left)) (c .judge-zone2 .ensures (Allocated _) (c .before .tell3 .ensures))
 
 pub judge-sized-spec : {M : Type 1} → statement M
 unfolding sizedVerdict
 judge-sized-spec =
     tie.close
     (tie.spec
-    (λ c. search needs) (λ c. rw (ne-eqb _ _ (c .if1 .taken))) (λ c. search needs) (λ c κs. search needs) (λ c κs. search needs) returns-2
-    (λ c κs. search needs) returns-3)
+    (λ c. search needs) (λ c κs. search needs)
+    (λ c. rw (ne-eqb _ _ (c .before .if1 .taken)) (c .tell .ensures))
+    (λ c. search needs) (λ c κs. search needs) (λ c κs. search needs) (λ c κs. search needs) returns-2
+    (λ c κs. search needs) (λ c κs. search needs) returns-3)
