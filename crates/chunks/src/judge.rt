@@ -24,11 +24,11 @@ pub fn judge_free(chunk: &[u8]) -> Told
     ensures { λ r. ⌜ r ≡ toldOf (freeVerdict (now (chunk .entry))) ⌝ }
 {
     let size = chunk.len() - 16;
-    let fill = run::first_difference(chunk, 0, size, chunk::FREE_FILL);
+    let fill = run::difference_by_eights(chunk, 0, size, chunk::FREE_FILL);
     if let Difference::At(o) = fill {
         return verdict::tell(Verdict::BadFill(o as u32));
     }
-    let zone = run::first_difference(chunk, size, 8, chunk::REDZONE);
+    let zone = run::two_words_difference(chunk, size, chunk::REDZONE);
     match zone {
         Difference::At(o) => verdict::tell(Verdict::BadRedzone((size + o) as u32)),
         Difference::Nowhere => verdict::tell(Verdict::Free),
@@ -42,7 +42,7 @@ fn judge_zone(chunk: &[u8], zone: u32, sound: Told) -> Told
         → r ≡ toldOf (zoneVerdict (now (chunk .entry)) (bytesOf 4 zone) v)) ⌝ }
 {
     let size = chunk.len() - 16;
-    let d = run::first_difference(chunk, size, 4, zone);
+    let d = run::word_difference(chunk, size, zone);
     match d {
         Difference::At(o) => verdict::tell(Verdict::Overrun((size + o) as u32)),
         Difference::Nowhere => sound,

@@ -8,24 +8,24 @@ use Rattle.chunks.proofs.judge.judge_free.Statement.{statement}
 use Rattle.chunks.proofs.judge.judge_free.Tie as tie
 
 cast-t8 : tie.Need-cast-t8
-cast-t8 c = omega (arith, run-within _ _ _ _ (omega arith) _ _ (c .before .before .before .first-difference .ensures) (c .before .fill .given .1))
+cast-t8 c = omega (arith, run-within _ _ _ _ (omega arith) _ _ (c .before .before .before .difference-by-eights .ensures) (c .before .fill .given .1))
 
 returns : tie.Need-returns
 unfolding freeVerdict
 returns c =
     let f = c .before .before in
-    rw (← f .before .before .first-difference .ensures, f .fill .given .1) (c .tell .ensures)
+    rw (← f .before .before .difference-by-eights .ensures, f .fill .given .1) (c .tell .ensures)
 
 -- the difference lies in the redzone
 zone-inside : (c : tie.After-known-told2) → c .before .zone .given .0 .0 < 8
-zone-inside c = run-within _ _ _ _ (omega arith) _ _ (c .before .before .before .first-difference2 .ensures) (c .before .zone .given .1)
+zone-inside c = run-within _ _ _ _ (omega arith) _ _ (c .before .before .before .two-words-difference .ensures) (c .before .zone .given .1)
 
 returns-2 : tie.Need-returns-2
 unfolding freeVerdict
 returns-2 c =
     let z = c .before .before in
     let d = z .before .before in
-    rw (← d .before .before .before .first-difference .ensures, d .before .enum-told .given .1, ← d .first-difference2 .ensures, z .zone .given .1)
+    rw (← d .before .before .before .difference-by-eights .ensures, d .before .enum-told .given .1, ← d .two-words-difference .ensures, z .zone .given .1)
     (c .tell2 .ensures)
 
 returns-3 : tie.Need-returns-3
@@ -33,7 +33,7 @@ unfolding freeVerdict
 returns-3 c =
     let z = c .before in
     let d = z .before .before in
-    rw (← d .before .before .before .first-difference .ensures, d .before .enum-told .given .1, ← d .first-difference2 .ensures, z .enum-told2 .given .1)
+    rw (← d .before .before .before .difference-by-eights .ensures, d .before .enum-told .given .1, ← d .two-words-difference .ensures, z .enum-told2 .given .1)
     (c .tell3 .ensures)
 
 pub judge-free-spec : {M : Type 1} → statement M

@@ -11,15 +11,15 @@ use Rattle.chunks.proofs.judge.judge_zone.Tie as tie
 
 -- the difference lies in R0
 inside : (c : tie.After-known-told) → c .before .d .given .0 .0 < 4
-inside c = run-within _ _ _ _ (omega arith) _ _ (c .before .before .before .first-difference .ensures) (c .before .d .given .1)
+inside c = run-within _ _ _ _ (omega arith) _ _ (c .before .before .before .word-difference .ensures) (c .before .d .given .1)
 
 returns : tie.Need-returns
 returns c v e =
     let d = c .before .before in
-    c .tell .ensures ∙ ap toldOf (zone-at _ _ _ v _ (d .before .before .first-difference .ensures) (d .d .given .1))
+    c .tell .ensures ∙ ap toldOf (zone-at _ _ _ v _ (d .before .before .word-difference .ensures) (d .d .given .1))
 
 returns-2 : tie.Need-returns-2
-returns-2 c v e = e ∙ ap toldOf (zone-sound _ _ v _ (c .before .before .first-difference .ensures) (c .enum-told .given .1))
+returns-2 c v e = e ∙ ap toldOf (zone-sound _ _ v _ (c .before .before .word-difference .ensures) (c .enum-told .given .1))
 
 pub judge-zone-spec : {M : Type 1} → statement M
 judge-zone-spec =
