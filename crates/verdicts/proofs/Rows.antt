@@ -7,8 +7,9 @@ use native.Mathlib.Omega.{arith}
 use lib.ListN.{set, getD, replicate}
 use lib.Seq.{sets}
 use Rattle.words.specs.Word.{flat}
+use Rattle.tags.specs.Verdict.{toldOf}
 use Rattle.sheet.specs.Areas.{Image}
-use Rattle.verdicts.specs.Judge.{verdictOf, toldOf, rowOf, rowsOf}
+use Rattle.verdicts.specs.Judge.{verdictOf, rowOf, rowsOf}
 
 pub three-stores : (l : List ℕ) (at a b c : ℕ) → set (set (set l at a) (at + 1) b) (at + 2) c ≡ sets l at (a ∷ b ∷ c ∷ [])
 three-stores l at a b c =

@@ -1,15 +1,15 @@
 -- The verdict on a buffer: J2 (the first rule that holds). Assumes nothing.
-use mathlib.Core.Bool.{Bool, true, false, _&&_, not, cond}
+use mathlib.Core.Bool.{Bool, false, _&&_, not, cond}
 use mathlib.Core.List.{List, [], _∷_}
 use Prim.Native.Nat.{ℕ, _+_}
 use lib.Dec.{eqb}
 use Rattle.words.specs.Word.{flat}
-use Rattle.tags.specs.Tag.{patternOf}
-use Rattle.tags.specs.Verdict.{verdictNumber, verdictValue}
+use Rattle.tags.specs.Tag.{patternOf, isFree, isAllocated, isNeither}
+use Rattle.tags.specs.Verdict.{toldOf}
 use Rattle.chunks.specs.Chunk.{tagAt}
 use Rattle.chunks.specs.Judge.{freeVerdict, allocatedVerdict}
 use Rattle.tags.specs.declared.tag.Pattern.{Pattern}
-use Rattle.tags.specs.declared.tag.Pattern.the-variants as pattern
+use Rattle.tags.specs.declared.verdict.Told.{Told}
 use Rattle.tags.specs.declared.verdict.Verdict.{Verdict}
 use Rattle.tags.specs.declared.verdict.Verdict.the-variants.{NotOneRecord, BadTag, FreedTwice, OffChain, OnChain}
 use Rattle.geometry.specs.Sheet.{recordAddress}
@@ -20,22 +20,6 @@ use Rattle.chain.specs.Pairing.{ownOf, byOwn}
 use Rattle.tags.specs.declared.ending.Ending.{Ending}
 use Rattle.tags.specs.declared.ending.Ending.the-variants.{End, Broken, Again}
 use Rattle.verdicts.specs.declared.judge.Standing.{Standing}
-use Rattle.verdicts.specs.declared.judge.Told.{Told}
-
-abbrev pub isFree : Pattern → Bool
-isFree pattern.Free = true
-isFree pattern.Allocated = false
-isFree pattern.Neither = false
-
-abbrev pub isAllocated : Pattern → Bool
-isAllocated pattern.Free = false
-isAllocated pattern.Allocated = true
-isAllocated pattern.Neither = false
-
-abbrev pub isNeither : Pattern → Bool
-isNeither pattern.Free = false
-isNeither pattern.Allocated = false
-isNeither pattern.Neither = true
 
 -- what the chain says of a buffer's own record: it is met or not, and the chain is "again" at it or not
 abbrev pub standing : Bool → Bool → Standing
@@ -78,10 +62,6 @@ standingOf c j = standing (metBy c j) (againAt (c .ending) j)
 unfoldable pub verdictOf : Image → ℕ → Verdict
 verdictOf m i =
     byOwn (ownOf m i) (λ j. ownedVerdict (chunkAt m i) (recordAddress (m .sheet) j) (standingOf (chainOf m) j)) NotOneRecord
-
--- J8 (a verdict as numbers): its number and its value
-abbrev pub toldOf : Verdict → Told
-toldOf v = record { number = verdictNumber v; value = verdictValue v }
 
 -- K12 (findings as numbers): the index, the verdict's number, and its size or offset, else 0
 abbrev pub rowOf : ℕ → Told → List ℕ

@@ -3,6 +3,8 @@ ghost use mathlib.Core.Path.{_≡_};
 ghost use Prim.Native.Nat.{_+_, _*_, _≤_, _<_};
 ghost use lib.ListN.{length};
 ghost use lib.Seq.{sets};
+ghost use Rattle.tags.specs.Tag.{patternOf};
+ghost use Rattle.tags.specs.Verdict.{toldOf};
 ghost use Rattle.chunks.specs.Chunk.{ChunkLength};
 ghost use Rattle.geometry.specs.Sheet.{recordOf};
 ghost use Rattle.geometry.specs.Limits.{Lawful, countMost};
@@ -10,7 +12,7 @@ ghost use Rattle.sheet.specs.Opening.{Open};
 ghost use Rattle.sheet.specs.Areas.{imageIn};
 ghost use Rattle.chain.specs.Chain.{chainIn};
 ghost use Rattle.chain.specs.Marks.{marksIn};
-ghost use Rattle.verdicts.specs.Judge.{chainedVerdict, againAt, againIndex, verdictOf, toldOf, rowOf, rowsOf};
+ghost use Rattle.verdicts.specs.Judge.{chainedVerdict, againAt, againIndex, verdictOf, rowOf, rowsOf};
 use area::place::Place;
 use chain::marks;
 use chunks::chunk;
@@ -20,8 +22,9 @@ use geometry::sheet::Sheet;
 use places::heap;
 use places::records;
 use tags::ending::Ending;
-use tags::tag::Pattern;
+use tags::tag::Tag;
 use tags::verdict;
+use tags::verdict::Told;
 use tags::verdict::Verdict;
 
 // What the chain says of a buffer's own record: whether it is met, and whether the chain is "again" at it.
@@ -30,38 +33,30 @@ pub struct Standing {
     pub again: bool,
 }
 
-// A verdict as numbers: its own, and its size or offset, 0 where it carries none.
-pub struct Told {
-    pub number: u32,
-    pub value: u32,
-}
-
-// The rules from 22 on, for a pattern that was read.
-fn judge_chained(chunk: &[u8], pattern: Pattern, s: Standing) -> Verdict
+// The rules from 22 on, and 21 for a tag of neither pattern.
+fn judge_chained(chunk: &[u8], tag: Tag, s: Standing) -> Told
     requires { ⌜ ChunkLength (length (now chunk)) ⌝ }
-    ensures { λ r. ⌜ r ≡ chainedVerdict (now (chunk .entry)) pattern s ⌝ }
+    ensures { λ r. ⌜ r ≡ toldOf (chainedVerdict (now (chunk .entry)) (patternOf tag) s) ⌝ }
 {
-    match pattern {
-        Pattern::Neither => Verdict::BadTag,
-        Pattern::Free => {
-            if s.again {
-                return Verdict::FreedTwice;
-            }
-            if s.met {
-                return judge::judge_free(chunk);
-            }
-            Verdict::OffChain
+    if tag.is_free() {
+        if s.again {
+            return verdict::tell(Verdict::FreedTwice);
         }
-        Pattern::Allocated => {
-            if s.again {
-                return Verdict::FreedTwice;
-            }
-            if s.met {
-                return Verdict::OnChain;
-            }
-            judge::judge_allocated(chunk)
+        if s.met {
+            return judge::judge_free(chunk);
         }
+        return verdict::tell(Verdict::OffChain);
     }
+    if tag.is_allocated() {
+        if s.again {
+            return verdict::tell(Verdict::FreedTwice);
+        }
+        if s.met {
+            return verdict::tell(Verdict::OnChain);
+        }
+        return judge::judge_allocated(chunk);
+    }
+    verdict::tell(Verdict::BadTag)
 }
 
 // The record whose address T0 of buffer i is. Records mostly stand in the order of their buffers, so that record is tried first: then
@@ -106,44 +101,44 @@ pub fn judge_buffer(
     i: usize,
     marks: &[u8],
     ending: Ending,
-) -> Verdict
+) -> Told
     requires { ⌜ Open (length (now heap)) (length (now records)) g ⌝ }
     requires { ⌜ i < g .count ⌝ }
     requires { ⌜ now marks ≡ marksIn g (now records) ⌝ }
     requires { ⌜ ending ≡ chainIn g (now records) .ending ⌝ }
-    ensures { λ r. ⌜ r ≡ verdictOf (imageIn g (heap .entry) (records .entry)) i ⌝ }
+    ensures { λ r. ⌜ r ≡ toldOf (verdictOf (imageIn g (heap .entry) (records .entry)) i) ⌝ }
 {
     if marks::read(marks[i]).names != 1 {
-        return Verdict::NotOneRecord;
+        return verdict::tell(Verdict::NotOneRecord);
     }
     let chunk = heap::chunk(heap, g, i);
     let tag = chunk::read_tag(chunk);
     let p = find_named(g, tag.t0, i);
     match p {
-        Place::Nowhere => Verdict::BadTag,
+        Place::Nowhere => verdict::tell(Verdict::BadTag),
         Place::At(j) => {
             if records::buffer(records, g, j) != g.buffer_address(i) {
-                return Verdict::BadTag;
+                return verdict::tell(Verdict::BadTag);
             }
             let s = Standing {
                 met: marks::read(marks[j]).met,
                 again: again_at(ending, j),
             };
-            judge_chained(chunk, tag.pattern(), s)
+            judge_chained(chunk, tag, s)
         }
     }
 }
 
 // Writes the numbers of buffer i at row k: its index, and its verdict's number and value.
-fn put_row(rows: &mut [u32], k: usize, i: usize, v: Verdict)
+fn put_row(rows: &mut [u32], k: usize, i: usize, t: Told)
     requires { ⌜ i < 4294967296 ⌝ }
     requires { ⌜ k * 3 + 3 ≤ length (now rows) ⌝ }
-    ensures { λ _. ⌜ now (rows .exit) ≡ sets (now (rows .entry)) (k * 3) (rowOf i (toldOf v)) ⌝ }
+    ensures { λ _. ⌜ now (rows .exit) ≡ sets (now (rows .entry)) (k * 3) (rowOf i t) ⌝ }
 {
     let at = k * 3;
     rows[at] = i as u32;
-    rows[at + 1] = verdict::number(v);
-    rows[at + 2] = verdict::value(v);
+    rows[at + 1] = t.number;
+    rows[at + 2] = t.value;
 }
 
 // The verdicts on `count` buffers from one on, as numbers into a lent row, three for each. Whoever wants one verdict as numbers asks
@@ -168,8 +163,8 @@ pub fn tell_buffers(
 {
     let mut k = 0;
     while k < count {
-        let v = judge_buffer(heap, records, g, from + k, marks, ending);
-        put_row(rows, k, from + k, v);
+        let t = judge_buffer(heap, records, g, from + k, marks, ending);
+        put_row(rows, k, from + k, t);
         k += 1;
     }
 }

@@ -9,6 +9,7 @@ use Rattle.area.specs.Record.{recordSize, addressWord}
 use Rattle.area.proofs.Places.{place-found, place-missed, address-one}
 use Rattle.chunks.specs.Chunk.{ChunkLength, tagAt}
 use Rattle.tags.specs.Tag.{patternOf}
+use Rattle.tags.specs.Verdict.{toldOf}
 use Rattle.tags.specs.declared.tag.Tag.{Tag}
 use Rattle.tags.specs.declared.ending.Ending.{Ending}
 use Rattle.geometry.specs.Sheet.{chunkPlace, recordAddress}
@@ -73,10 +74,10 @@ module _ (c : tie.After-p) where
 
 returns : tie.Need-returns
 returns c =
-    let s = c .before .before .before .before .before .before .before in
-    sym
-    (verdict-none (judging s) (s .args .i)
-    (λ e. c .if1 .taken (ap (λ (d : Digits). d .names) (c .before .before .read .ensures) ∙ digit s ∙ e)))
+    let r = c .before .before .before in
+    let s = r .before .before .before .before .before in
+    let none = verdict-none (judging s) (s .args .i) (λ e. c .before .if1 .taken (ap (λ (d : Digits). d .names) (r .read .ensures) ∙ digit s ∙ e)) in
+    c .tell .ensures ∙ ap toldOf (sym none)
 
 read-tag-requires : tie.Need-read-tag-requires
 read-tag-requires c κs = rw (c .chunk .ensures) (chunk-lawful (c .before .before .before .before .before .before .before .before))
@@ -90,25 +91,28 @@ buffer-requires c κs =
 -- the record at T0 names another buffer
 returns-2 : tie.Need-returns-2
 returns-2 c =
-    let p = c .before .before .before .before in
+    let i = c .before in
+    let p = i .before .before .before .before in
     let s = start p in
     let r = s .args .records .now in
-    sym
-    (verdict-other (judging s) (s .args .i) (one-names (p .before .before .before))
+    let other =
+    verdict-other (judging s) (s .args .i) (one-names (p .before .before .before))
     (λ j l w e.
     let same = address-one (s .args .g .«record_base») recordSize (index p) j (omega arith) (sym (found p .1) ∙ e) in
-    c .if2 .taken (c .before .before .buffer .ensures ∙ ap (addressWord r) same ∙ w ∙ sym (c .before .buffer-address .ensures))))
+    i .if2 .taken (i .before .before .buffer .ensures ∙ ap (addressWord r) same ∙ w ∙ sym (i .before .buffer-address .ensures))) in
+    c .tell3 .ensures ∙ ap toldOf (sym other)
 
 -- T0 is no record's address
 returns-3 : tie.Need-returns-3
 returns-3 c =
-    let f = c .before .before in
+    let f = c .before .before .before in
     let s = begun (f .before) in
     let g = s .args .g in
-    sym
-    (verdict-other (judging s) (s .args .i) (one-names (f .before))
-    (λ j l w e. place-missed (g .«record_base») recordSize (g .count) _ (omega arith) (sym (f .find-named .ensures) ∙ c .enum-told .given .1) j l
-    (ap (λ (t : Tag). t .t0) (tag-read (f .before)) ∙ e)))
+    let other =
+    verdict-other (judging s) (s .args .i) (one-names (f .before))
+    (λ j l w e. place-missed (g .«record_base») recordSize (g .count) _ (omega arith) (sym (f .find-named .ensures) ∙ c .before .enum-told .given .1) j l
+    (ap (λ (t : Tag). t .t0) (tag-read (f .before)) ∙ e)) in
+    c .tell2 .ensures ∙ ap toldOf (sym other)
 
 again-at-requires : tie.Need-again-at-requires
 again-at-requires c κs =
@@ -118,34 +122,34 @@ again-at-requires c κs =
 
 judge-chained-requires : tie.Need-judge-chained-requires
 judge-chained-requires c κs =
-    let p = c .before .before .before .before .before .before .before .before in
+    let p = c .before .before .before .before .before .before .before in
     rw (p .before .before .before .before .chunk .ensures) (chunk-lawful (start p))
 
 returns-4 : tie.Need-returns-4
 returns-4 c =
-    let p = c .before .before .before .before .before .before .before .before .before in
+    let p = c .before .before .before .before .before .before .before .before in
     let s = start p in
     let g = s .args .g in
     let r = s .args .records .now in
     let k = p .before .before .before in
-    let at = c .before .before .before .before .before in
+    let at = c .before .before .before .before in
     let whole = k .before .chunk .ensures in
-    let pattern = c .before .pattern .ensures ∙ ap patternOf (tag-read k) in
-    let digits = c .before .before .before .read2 .ensures in
+    let tag = tag-read k in
+    let digits = c .before .before .read2 .ensures in
     let met = ap (λ (d : Digits). d .met) digits ∙ marks-met g r (s .args .marks .now) (s .pre .1 .1 .0) (index p) (found p .0) in
-    let again = c .before .before .again-at .ensures ∙ ap (λ (e : Ending). againAt e (index p)) (s .pre .1 .1 .1) in
+    let again = c .before .again-at .ensures ∙ ap (λ (e : Ending). againAt e (index p)) (s .pre .1 .1 .1) in
+    let one =
+    verdict-one (judging s) (s .args .i) (index p) (one-names k) (found p .0)
+    (sym (at .before .before .buffer .ensures) ∙ at .if2 .left ∙ at .before .buffer-address .ensures) (found p .1) in
     c .judge-chained .ensures
-    ∙ (λ x. chainedVerdict (whole x) (pattern x) (standing (met x) (again x)))
-    ∙ sym
-    (verdict-one (judging s) (s .args .i) (index p) (one-names k) (found p .0)
-    (sym (at .before .before .buffer .ensures) ∙ at .if2 .left ∙ at .before .buffer-address .ensures) (found p .1))
+    ∙ ap toldOf ((λ x. chainedVerdict (whole x) (patternOf (tag x)) (standing (met x) (again x))) ∙ sym one)
 
 pub judge-buffer-spec : {M : Type 1} → statement M
 judge-buffer-spec =
     tie.close
     (tie.spec
     (λ c. let l = long (c .before .before .before .before) in omega (arith, c .before .before .before .before .pre .1 .0))
-    (λ c κs. search needs) returns (λ c κs. search needs) read-tag-requires (λ c κs. search needs) (λ c. search needs) (λ c. search needs) buffer-requires
-    (λ c κs. search needs) returns-2
+    (λ c κs. search needs) (λ c κs. search needs) returns (λ c κs. search needs) read-tag-requires (λ c κs. search needs) (λ c. search needs)
+    (λ c κs. search needs) (λ c. search needs) buffer-requires (λ c κs. search needs) (λ c κs. search needs) returns-2
     (λ c. let p = c .before .before .before .before .before in let l = long (start p) in omega (arith, found p .0))
-    (λ c κs. search needs) again-at-requires (λ c κs. search needs) judge-chained-requires returns-3 returns-4)
+    (λ c κs. search needs) again-at-requires judge-chained-requires returns-3 returns-4)

@@ -1,30 +1,52 @@
--- "Again" comes first, then whether the pattern fits the chain, then the chunk itself. Assumes nothing.
+-- The two tests tell the pattern. "Again" comes first, then whether the pattern fits the chain, then the chunk itself. Assumes nothing.
+use mathlib.Core.Path.{_≡_, sym, _∙_}
 use borrow.Author.Needs.{needs}
+use Rattle.tags.specs.Tag.{patternOf}
+use Rattle.tags.specs.declared.tag.Pattern.the-variants as pattern
+use Rattle.tags.proofs.Tags.{is-free, is-allocated, is-neither}
 use Rattle.verdicts.specs.Judge.{chainedVerdict}
 use Rattle.verdicts.proofs.judge.judge_chained.Statement.{statement}
 use Rattle.verdicts.proofs.judge.judge_chained.Tie as tie
 
+-- the pattern, by the tests
+free : (c : tie.Then1) → patternOf (c .before .before .before .args .tag) ≡ pattern.Free
+free c = is-free _ (sym (c .before .is-free .ensures) ∙ c .if1 .taken)
+
+allocated : (c : tie.Then4) → patternOf (c .before .before .before .before .before .args .tag) ≡ pattern.Allocated
+allocated c = is-allocated _ (sym (c .before .is-allocated .ensures) ∙ c .if4 .taken)
+
+neither : (c : tie.Else4) → patternOf (c .before .before .before .before .before .args .tag) ≡ pattern.Neither
+neither c =
+    let f = c .before .before in
+    is-neither _ (sym (f .before .is-free .ensures) ∙ f .if1 .left) (sym (c .before .is-allocated .ensures) ∙ c .if4 .left)
+
 returns-2 : tie.Need-returns-2
 unfolding chainedVerdict
-returns-2 c = rw (c .before .before .before .enum-told2 .given .1, c .before .before .if1 .left, c .before .if2 .taken) (c .judge-free .ensures)
+returns-2 c = let m = c .before in rw (free (m .before .before), m .before .if2 .left, m .if3 .taken) (c .judge-free .ensures)
 
-returns-4 : tie.Need-returns-4
+returns-3 : tie.Need-returns-3
 unfolding chainedVerdict
-returns-4 c = rw (c .before .before .enum-told3 .given .1, c .before .if3 .left, c .if4 .taken)
+returns-3 c = let m = c .before in rw (free (m .before .before), m .before .if2 .left, m .if3 .left) (c .tell2 .ensures)
+
+returns-5 : tie.Need-returns-5
+unfolding chainedVerdict
+returns-5 c = let m = c .before in rw (allocated (m .before .before), m .before .if5 .left, m .if6 .taken) (c .tell4 .ensures)
+
+returns-6 : tie.Need-returns-6
+unfolding chainedVerdict
+returns-6 c = let m = c .before in rw (allocated (m .before .before), m .before .if5 .left, m .if6 .left) (c .judge-allocated .ensures)
 
 returns-7 : tie.Need-returns-7
 unfolding chainedVerdict
-returns-7 c = rw (c .before .before .before .enum-told3 .given .1, c .before .before .if3 .left, c .before .if4 .left) (c .judge-allocated .ensures)
+returns-7 c = rw (neither (c .before)) (c .tell5 .ensures)
 
 pub judge-chained-spec : {M : Type 1} → statement M
 unfolding chainedVerdict
 judge-chained-spec =
     tie.close
     (tie.spec
-    (λ c. search needs) (λ c. search needs)
-    (λ c. rw (c .before .enum-told2 .given .1, c .if1 .taken))
-    (λ c κs. search needs) returns-2 (λ c. search needs)
-    (λ c. rw (c .before .enum-told3 .given .1, c .if3 .taken))
-    returns-4 (λ c κs. search needs) (λ c. rw (c .enum-told .given .1))
-    (λ c. rw (c .before .before .enum-told2 .given .1, c .before .if1 .left, c .if2 .left))
-    returns-7)
+    (λ c κs. search needs) (λ c κs. search needs)
+    (λ c. rw (free (c .before .before), c .before .if2 .taken) (c .tell .ensures))
+    (λ c κs. search needs) returns-2 (λ c κs. search needs) returns-3 (λ c κs. search needs) (λ c κs. search needs)
+    (λ c. rw (allocated (c .before .before), c .before .if5 .taken) (c .tell3 .ensures))
+    (λ c κs. search needs) returns-5 (λ c κs. search needs) returns-6 (λ c κs. search needs) returns-7)

@@ -7,9 +7,9 @@ use lib.Seq.{sets}
 use lib.ListN.{length}
 use Rattle.words.specs.Word.{flat}
 use Rattle.words.proofs.Parts.{below, flat-none, flat-more}
-use Rattle.tags.specs.declared.verdict.Verdict.{Verdict}
+use Rattle.tags.specs.declared.verdict.Told.{Told}
 use Rattle.sheet.specs.Areas.{image}
-use Rattle.verdicts.specs.Judge.{toldOf, rowOf}
+use Rattle.verdicts.specs.Judge.{rowOf}
 use Rattle.verdicts.proofs.Rows.{row}
 use Rattle.verdicts.proofs.judge.tell_buffers.Statement.{statement}
 use Rattle.verdicts.proofs.judge.tell_buffers.Tie as tie
@@ -39,7 +39,7 @@ loop-again c =
     let j = w .before .before in
     let l = j .before .before in
     let i = l .before .before .before .before .before .args .from + l .loop .k in
-    let put = w .put-row .ensures ∙ ap (λ (v : Verdict). sets (l .loop .rows) (l .loop .k * 3) (rowOf i (toldOf v))) (j .judge-buffer .ensures) in
+    let put = w .put-row .ensures ∙ ap (λ (t : Told). sets (l .loop .rows) (l .loop .k * 3) (rowOf i t)) (j .judge-buffer .ensures) in
     (search needs, search needs, flat-more 3 _ (λ k. refl) _ _ (l .loop .inv .2) put)
 
 returns : tie.Need-returns Inv-loop μ-loop
