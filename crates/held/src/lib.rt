@@ -7,6 +7,8 @@ ghost use mathlib.Core.Path.{_≡_};
 ghost use Prim.Native.Nat.{_<_};
 ghost use lib.ListN.{length};
 ghost use Rattle.tags.specs.Tag.{patternOf};
+ghost use Rattle.tags.specs.Verdict.{toldOf};
+ghost use Rattle.tags.specs.declared.verdict.Verdict.{Verdict};
 ghost use Rattle.chunks.specs.Chunk.{ChunkLength, tagAt};
 ghost use Rattle.sheet.specs.Areas.{imageIn, chunkIn};
 ghost use Rattle.sheet.specs.Opening.{Open};
@@ -22,6 +24,7 @@ use places::spot::Spot;
 use tags::refusal::Refusal;
 use tags::tag::Pattern;
 use tags::verdict;
+use tags::verdict::Told;
 use tags::verdict::Verdict;
 
 // An allocated buffer of an open image with its own record, and its grant.
@@ -37,23 +40,22 @@ pub enum Held {
 }
 
 // A chunk that is found whole or allocated is held as such, and any other verdict refuses.
-fn held_as(v: Verdict, spot: Spot) -> Held
-    ensures { λ r. ⌜ r ≡ heldAs v spot ⌝ }
+fn held_as(t: Told, spot: Spot) -> Held
+    ensures { λ r. ⌜ ((v : Verdict) → t ≡ toldOf v → r ≡ heldAs v spot) ⌝ }
 {
-    let n = verdict::number(v);
-    if n == 1 {
+    if t.number == 1 {
         return Held::Buffer(Holding {
             spot,
             grant: Grant::Whole,
         });
     }
-    if n == 2 {
+    if t.number == 2 {
         return Held::Buffer(Holding {
             spot,
-            grant: Grant::Sized(verdict::value(v)),
+            grant: Grant::Sized(t.value),
         });
     }
-    Held::Refused(Refusal::Damage(v))
+    Held::Refused(Refusal::Damage(verdict::of(t)))
 }
 
 // The last step: the chunk's pattern and its own bytes.

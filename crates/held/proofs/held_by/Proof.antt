@@ -1,5 +1,6 @@
 -- The pattern decides, and then the allocated chunk's verdict. Assumes nothing.
 use borrow.Author.Needs.{needs}
+use Rattle.chunks.specs.Judge.{allocatedVerdict}
 use Rattle.held.proofs.held_by.Statement.{statement}
 use Rattle.held.proofs.held_by.Tie as tie
 
@@ -7,8 +8,8 @@ returns-3 : tie.Need-returns-3
 returns-3 c =
     let e = c .before .before in
     let p = e .before .before in
-    rw (← p .before .read-tag .ensures, ← p .pattern .ensures, e .enum-told3 .given .1, ← c .before .judge-allocated .ensures)
-    (c .held-as .ensures)
+    rw (← p .before .read-tag .ensures, ← p .pattern .ensures, e .enum-told3 .given .1)
+    (c .held-as .ensures (allocatedVerdict _) (c .before .judge-allocated .ensures))
 
 pub held-by-spec : {M : Type 1} → statement M
 held-by-spec =
