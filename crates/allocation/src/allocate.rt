@@ -1,6 +1,8 @@
 // Allocate: a plan that only reads, and a commit that cannot fail.
 ghost use mathlib.Core.Path.{_≡_};
 ghost use lib.ListN.{length};
+ghost use Rattle.tags.specs.Verdict.{toldOf};
+ghost use Rattle.tags.specs.declared.verdict.Verdict.{Verdict};
 ghost use Rattle.chunks.specs.Chunk.{lawfulSize};
 ghost use Rattle.sheet.specs.Areas.{lent, before, after, byLengths, result, imageIn};
 ghost use Rattle.geometry.specs.Limits.{Lawful};
@@ -22,6 +24,7 @@ use tags::refusal::Answer;
 use tags::refusal::Refusal;
 use tags::tag::Pattern;
 use tags::verdict;
+use tags::verdict::Told;
 use tags::verdict::Verdict;
 
 // What an allocation will do.
@@ -46,13 +49,13 @@ fn lawful_size(grant: Grant, size: usize) -> bool
 }
 
 // A chunk that is found free is taken, and any other verdict refuses.
-fn if_free(v: Verdict, p: Spot) -> AllocatePlan
-    ensures { λ r. ⌜ r ≡ ifFree v p ⌝ }
+fn if_free(t: Told, p: Spot) -> AllocatePlan
+    ensures { λ r. ⌜ ((v : Verdict) → t ≡ toldOf v → r ≡ ifFree v p) ⌝ }
 {
-    if verdict::number(v) == 0 {
+    if t.number == 0 {
         return AllocatePlan::Take(p);
     }
-    AllocatePlan::Refused(Refusal::Damage(v))
+    AllocatePlan::Refused(Refusal::Damage(verdict::of(t)))
 }
 
 // The last step: the chunk of the head record's buffer.

@@ -2,6 +2,7 @@
 use mathlib.Core.Path.{_≡_}
 use borrow.Author.Tests.{eq-eqb, ne-eqb}
 use borrow.Author.Needs.{needs}
+use Rattle.chunks.specs.Judge.{freeVerdict}
 use Rattle.allocation.specs.Allocate.{takenBy, takenChunk}
 use Rattle.allocation.proofs.allocate.take_chunk.Statement.{statement}
 use Rattle.allocation.proofs.allocate.take_chunk.Tie as tie
@@ -23,5 +24,5 @@ take-chunk-spec =
     (λ c κs. search needs) (λ c. search needs) (λ c. search needs) (λ c. search needs) (λ c κs. search needs) (λ c κs. search needs)
     (λ c. rw (decided (c .before .before), c .enum-told .given .1))
     (λ c. rw (decided (c .before .before), c .enum-told2 .given .1))
-    (λ c. rw (decided (c .before .before .before .before), c .before .before .enum-told3 .given .1, ← c .before .judge-free .ensures)
-    (c .if-free .ensures)))
+    (λ c. rw (decided (c .before .before .before .before), c .before .before .enum-told3 .given .1)
+    (c .if-free .ensures (freeVerdict _) (c .before .judge-free .ensures))))
