@@ -19,6 +19,7 @@ use sheet::opening::Opened;
 use tags::ending::Ending;
 use tags::refusal::Answer;
 use tags::refusal::Refusal;
+use tags::verdict;
 use tags::verdict::Verdict;
 use verdicts::judge;
 
@@ -92,7 +93,7 @@ fn judge_first(
     ensures { λ r. ⌜ r ≡ verdictOf (imageIn g (heap .entry) (records .entry)) i ⌝ }
 {
     let n = g.count;
-    judge::judge_buffer(heap, records, g, i, &marks[..n], ending)
+    verdict::of(judge::judge_buffer(heap, records, g, i, &marks[..n], ending))
 }
 
 // The finding of buffer i. Where no buffer is judged there is none, and this is not called.

@@ -13,7 +13,7 @@ use Rattle.runs.specs.declared.run.Difference.the-variants.{At, Nowhere}
 use Rattle.runs.proofs.Runs.{differs-within}
 use Rattle.words.proofs.Tests.{by-test}
 use Rattle.tags.specs.SizeCode.{decodedOf}
-use Rattle.tags.specs.Tag.{patternOf}
+use Rattle.tags.specs.Tag.{patternOf, isNeither, isFree, isAllocated}
 use Rattle.tags.specs.Verdict.{verdictValue}
 use Rattle.tags.specs.declared.size_code.Decoded.{Decoded}
 use Rattle.tags.specs.declared.size_code.Decoded.the-variants as decoded
@@ -27,7 +27,7 @@ use Rattle.geometry.specs.Sheet.{chunkPlace, recordAddress}
 use Rattle.sheet.specs.Areas.{Image, chunkAt}
 use Rattle.chain.specs.Chain.{chainOf}
 use Rattle.chain.specs.Pairing.{ownOf, byOwn}
-use Rattle.verdicts.specs.Judge.{isNeither, isFree, isAllocated, chainedVerdict, ownedVerdict, standingOf, verdictOf}
+use Rattle.verdicts.specs.Judge.{chainedVerdict, ownedVerdict, standingOf, verdictOf}
 use Rattle.chain.specs.declared.pairing.Own.{Own}
 use Rattle.chain.specs.declared.pairing.Own.the-variants.{One, NotOne}
 use Rattle.verdicts.specs.declared.judge.Standing.{Standing}

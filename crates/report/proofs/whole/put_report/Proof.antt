@@ -9,7 +9,7 @@ use Rattle.words.proofs.Parts.{flat-nil, flat-suc}
 use Rattle.words.proofs.Sums.{total-zero, total-suc}
 use Rattle.tags.specs.Ending.{endingValue}
 use Rattle.tags.specs.declared.ending.Ending.{Ending}
-use Rattle.verdicts.specs.declared.judge.Told.{Told}
+use Rattle.tags.specs.declared.verdict.Told.{Told}
 use Rattle.sheet.specs.Areas.{Image, image}
 use Rattle.lines.specs.Text.{lineOf, linesOf, faultOf, faultsIn, Wrote, mostBuffers, headerMost, lineMost}
 use Rattle.lines.proofs.Texts.{then, wrote-none, verdict-small}
