@@ -50,13 +50,18 @@ pub fn two_words_difference(s: &[u8], at: usize, w: u32) -> Difference
     eight::difference_at(s, at, eight::twice(w))
 }
 
-// The first place at which `len` bytes from an offset on differ from a word again and again: whole eights, and then the last few.
+// The first place at which `len` bytes from an offset on differ from a word again and again: the first eight bytes by themselves,
+// where most hurts are, then whole eights, and then the last few.
 pub fn first_difference(s: &[u8], at: usize, len: usize, w: u32) -> Difference
     requires { ⌜ at + len ≤ length (now s) ⌝ }
     ensures { λ r. ⌜ r ≡ difference (part (now (s .entry)) at len) (repeated len w) ⌝ }
 {
     if len < 8 {
         return difference_by_bytes(s, at, len, w);
+    }
+    let head = two_words_difference(s, at, w);
+    if let Difference::At(o) = head {
+        return Difference::At(o);
     }
     let whole = len / 8 * 8;
     let eights = difference_by_eights(s, at, whole, w);
