@@ -50,15 +50,24 @@ pub fn two_words_difference(s: &[u8], at: usize, w: u32) -> Difference
     eight::difference_at(s, at, eight::twice(w))
 }
 
-// The first place at which `len` bytes from an offset on differ from a word again and again: the first eight bytes by themselves,
-// where most hurts are, then whole eights, and then the last few.
+// The first place at which `len` bytes from an offset on differ from a word again and again. The longer case stands first, since the
+// compiler then puts it first.
 pub fn first_difference(s: &[u8], at: usize, len: usize, w: u32) -> Difference
     requires { ⌜ at + len ≤ length (now s) ⌝ }
     ensures { λ r. ⌜ r ≡ difference (part (now (s .entry)) at len) (repeated len w) ⌝ }
 {
-    if len < 8 {
-        return difference_by_bytes(s, at, len, w);
+    if 8 <= len {
+        return long_difference(s, at, len, w);
     }
+    difference_by_bytes(s, at, len, w)
+}
+
+// The same of eight bytes or more: the first eight by themselves, where most hurts are, then whole eights, and then the last few.
+fn long_difference(s: &[u8], at: usize, len: usize, w: u32) -> Difference
+    requires { ⌜ at + len ≤ length (now s) ⌝ }
+    requires { ⌜ 8 ≤ len ⌝ }
+    ensures { λ r. ⌜ r ≡ difference (part (now (s .entry)) at len) (repeated len w) ⌝ }
+{
     let head = two_words_difference(s, at, w);
     if let Difference::At(o) = head {
         return Difference::At(o);

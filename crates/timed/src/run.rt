@@ -7,7 +7,6 @@ ghost use Rattle.runs.specs.Run.{repeated, difference};
 ghost use Rattle.timed.specs.Timed.{placeOf, filled};
 use runs::run;
 use runs::run::Difference;
-use words::word;
 
 // The number that says where two runs differ.
 fn place(d: Difference) -> u64
@@ -46,24 +45,5 @@ pub extern "C" fn timed_fill(s: &mut [u8], w: u32) -> bool
         return false;
     }
     run::fill(s, 0, len, w);
-    true
-}
-
-// The same, word by word.
-#[no_mangle]
-pub extern "C" fn timed_fill_by_words(s: &mut [u8], w: u32) -> bool
-    ensures { λ r. ⌜ r ≡ eqb (length (now (s .entry)) % 8) 0 ⌝ }
-    ensures { λ _. ⌜ now (s .exit) ≡ filled (now (s .entry)) w ⌝ }
-{
-    let len = s.len();
-    if len % 8 != 0 {
-        return false;
-    }
-    let mut i = 0;
-    while i < len {
-        word::write_u32(s, i, w);
-        word::write_u32(s, i + 4, w);
-        i += 8;
-    }
     true
 }

@@ -1,11 +1,11 @@
-//! The fill test and the fill by themselves, each beside its simpler form.
+//! The fill test and the fill by themselves.
 
 use std::array::from_fn;
 use std::hint::black_box;
 
-use timed::{difference_by_bytes, fill, fill_by_words, first_difference};
+use timed::{difference_by_bytes, fill, first_difference};
 
-use crate::limits::{compare, filled};
+use crate::limits::{clear, compare, filled};
 use crate::requirement::Requirement;
 use crate::timing::{race, Call, Times};
 
@@ -167,29 +167,24 @@ fn differing(length: usize, place: usize) -> Vec<u8> {
     run
 }
 
-/// Times the fill.
-pub fn time_fill() -> Requirement {
-    let mut requirement = Requirement::new("fill: no slower than by words", 1.05);
-    println!("| bytes | by eights | by words | ratio | middle half of ratios |");
+/// Times the fill beside `memset`.
+pub fn time_fill() {
+    println!("| bytes | fill | memset | ratio | middle half of ratios |");
     println!("|--:|--:|--:|--:|--:|");
     for length in LENGTHS {
         let [mut run, mut second] = [0, 1].map(|byte| vec![byte; length]);
         assert!(fill(&mut run, WORD), "{length} bytes");
-        assert!(fill_by_words(&mut second, WORD), "{length} bytes");
         assert_eq!(run, filled(length), "{length} bytes");
-        assert_eq!(second, filled(length), "{length} bytes");
-        let [by_eights, by_words] = race([
+        let [filling, memset] = race([
             many(|| _ = black_box(fill(black_box(&mut run), black_box(WORD)))),
-            many(|| _ = black_box(fill_by_words(black_box(&mut second), black_box(WORD)))),
+            many(|| clear(black_box(&mut second))),
         ]);
-        let ratio = by_eights.ratio(&by_words);
-        let (low, high) = by_eights.spread(&by_words);
+        let ratio = filling.ratio(&memset);
+        let (low, high) = filling.spread(&memset);
         println!(
             "| {length} | {:.1} | {:.1} | {ratio:.2} | {low:.2} to {high:.2} |",
-            of_one(&by_eights),
-            of_one(&by_words),
+            of_one(&filling),
+            of_one(&memset),
         );
-        requirement.add(&format!("{length} bytes"), ratio);
     }
-    requirement
 }

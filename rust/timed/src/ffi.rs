@@ -58,6 +58,4 @@ extern "C" {
     pub fn timed_difference_by_bytes(s: *const u8, len: usize, word: u32) -> u64;
 
     pub fn timed_fill(s: *mut u8, len: usize, word: u32) -> bool;
-
-    pub fn timed_fill_by_words(s: *mut u8, len: usize, word: u32) -> bool;
 }

@@ -1,4 +1,4 @@
-//! The library's fill test and fill, each beside the simpler form of it. Byte i of a
+//! The library's fill test, beside the simpler form of it, and its fill. Byte i of a
 //! filled run is byte i mod 4 of the word, the highest first.
 
 use crate::ffi;
@@ -26,14 +26,6 @@ pub fn fill(bytes: &mut [u8], word: u32) -> bool {
     // SAFETY: the pointer comes with the length of its own slice, which nothing else can
     // reach before the call returns.
     unsafe { ffi::timed_fill(bytes.as_mut_ptr(), bytes.len(), word) }
-}
-
-/// The same, one word after the other.
-#[inline]
-pub fn fill_by_words(bytes: &mut [u8], word: u32) -> bool {
-    // SAFETY: the pointer comes with the length of its own slice, which nothing else can
-    // reach before the call returns.
-    unsafe { ffi::timed_fill_by_words(bytes.as_mut_ptr(), bytes.len(), word) }
 }
 
 /// The highest number stands for nowhere.

@@ -6,5 +6,5 @@ mod ffi;
 mod fill;
 mod plain;
 
-pub use fill::{difference_by_bytes, fill, fill_by_words, first_difference};
+pub use fill::{difference_by_bytes, fill, first_difference};
 pub use plain::{plain_allocate, plain_free, plain_inspect, plain_latest};

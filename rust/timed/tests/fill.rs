@@ -1,8 +1,8 @@
-//! The fill test and the fill, in both of their forms, by the rule itself: byte i of a
+//! The fill test, in both of its forms, and the fill, by the rule itself: byte i of a
 //! filled run is byte i mod 4 of the word, the highest first.
 
 use differential::Sequence;
-use timed::{difference_by_bytes, fill, fill_by_words, first_difference};
+use timed::{difference_by_bytes, fill, first_difference};
 
 const SEED: u64 = 0x51a7_0e4d;
 
@@ -40,11 +40,6 @@ const TESTS: [(&str, Test); 2] = [
     ("first_difference", first_difference),
     ("difference_by_bytes", difference_by_bytes),
 ];
-
-type Fill = fn(&mut [u8], u32) -> bool;
-
-/// Both forms of the fill.
-const FILLS: [(&str, Fill); 2] = [("fill", fill), ("fill_by_words", fill_by_words)];
 
 fn lengths() -> impl Iterator<Item = usize> {
     (0..=80).chain(LONG)
@@ -193,15 +188,13 @@ fn fills() {
                 if is_lawful {
                     expected[shift..shift + length].copy_from_slice(&filled(length, word));
                 }
-                for (name, fill) in FILLS {
-                    let mut all = before.clone();
-                    let answer = fill(&mut all[shift..shift + length], word);
-                    let story = format!("{name}, {length} bytes from {shift} on, {word:#010x}");
-                    assert_eq!(answer, is_lawful, "{story}");
-                    assert!(all == expected, "{story}: other bytes");
-                    written += usize::from(is_lawful);
-                    refused += usize::from(!is_lawful);
-                }
+                let mut all = before.clone();
+                let answer = fill(&mut all[shift..shift + length], word);
+                let story = format!("{length} bytes from {shift} on, {word:#010x}");
+                assert_eq!(answer, is_lawful, "{story}");
+                assert!(all == expected, "{story}: other bytes");
+                written += usize::from(is_lawful);
+                refused += usize::from(!is_lawful);
             }
         }
     }
