@@ -1,35 +1,35 @@
--- The lines passed are put, and the faults among them counted; behind them stand the chain line and the last line. Assumes nothing.
-use mathlib.Core.Path.{_≡_, sym, ap, subst, _∙_}
+-- The lines of the batches passed are put, and the faults among them counted; behind them stand the chain line and the last line. Assumes nothing.
+use mathlib.Core.Path.{_≡_, sym, subst}
 use mathlib.Core.List.{List}
 use Prim.Native.Nat.{ℕ, _+_, _*_, _-_, _≤_, _<_}
-use native.Mathlib.Numerals.{add-one}
 use native.Mathlib.Omega.{arith}
 use borrow.Author.Needs.{needs}
-use Rattle.words.proofs.Parts.{flat-nil, flat-suc}
-use Rattle.words.proofs.Sums.{total-zero, total-suc}
+use lib.ListN.{length}
+use Rattle.words.proofs.Parts.{flat-nil}
+use Rattle.words.proofs.Sums.{total-zero}
 use Rattle.tags.specs.Ending.{endingValue}
 use Rattle.tags.specs.declared.ending.Ending.{Ending}
-use Rattle.tags.specs.declared.verdict.Told.{Told}
 use Rattle.sheet.specs.Areas.{Image, image}
 use Rattle.lines.specs.Text.{lineOf, linesOf, faultOf, faultsIn, Wrote, mostBuffers, headerMost, lineMost}
-use Rattle.lines.proofs.Texts.{then, wrote-none, verdict-small}
+use Rattle.lines.proofs.Texts.{then, wrote-none}
 use Rattle.report.specs.Answer.{numberOf, valueOf, reportText}
-use Rattle.verdicts.specs.Judge.{verdictOf}
 use Rattle.chain.proofs.Chains.{chain-short, ending-below}
+use Rattle.report.proofs.Batches.{numbers-small, lines-more, faults-more}
 use Rattle.report.proofs.Reports.{report-is}
 use Rattle.report.proofs.whole.put_report.Statement.{statement}
 use Rattle.report.proofs.whole.put_report.Tie as tie
 
 abbrev Inv-loop : tie.InvT-loop
-Inv-loop output₀ heap records g marks met ending n at₀ faults₀ i₀ output at faults i =
+Inv-loop output₀ heap records g marks met ending n rows₀ at₀ faults₀ i₀ output rows at faults i =
     (i ≤ n)
     × (faults ≤ i)
+    × (length rows ≡ 48)
     × (at ≤ headerMost + i * lineMost)
     × (faults ≡ faultsIn (numberOf (image g heap records)) i)
     × Wrote output₀ at₀ (linesOf (numberOf (image g heap records)) (valueOf (image g heap records)) i) output at
 
 abbrev μ-loop : tie.MeasureT-loop
-μ-loop output₀ heap records g marks met ending n at₀ faults₀ i₀ output at faults i = n - i
+μ-loop output₀ heap records g marks met ending n rows₀ at₀ faults₀ i₀ output rows at faults i = n - i
 
 -- the image that the function is lent
 abbrev lent : tie.Start Inv-loop μ-loop → Image
@@ -42,36 +42,36 @@ loop-holds c =
     let none = sym (flat-nil (λ (i : ℕ). lineOf i (numberOf m i) (valueOf m i))) in (
       search needs,
       search needs,
+      search needs,
       omega (arith, h .ensures .1),
       sym (total-zero (λ (i : ℕ). faultOf (numberOf m i))),
       subst (λ (x : List ℕ). Wrote (h .last .0) (h .result) x (h .last .0) (h .result)) none (wrote-none (h .last .0) (h .result)),
     )
 
-put-line-requires : tie.Need-put-line-requires Inv-loop μ-loop
-put-line-requires c κs =
-    let p = c .before .before .before in
-    let m = lent (p .before .before .before .before .before .before .before .before .before) in
-    let number = ap (λ (t : Told). t .number) (c .before .tell-buffer .ensures) in
-    (search needs, (search needs, omega (arith, number, verdict-small (verdictOf m (p .loop .i)))))
+tell-buffers-requires : tie.Need-tell-buffers-requires Inv-loop μ-loop
+tell-buffers-requires c κs =
+    let p = c .before .before .before .before .before .before .before .before .before .before .before .before .pre in
+    (p .0, (search needs, (p .1 .0, (p .1 .1 .1, search needs))))
+
+put-rows-requires : tie.Need-put-rows-requires Inv-loop μ-loop
+put-rows-requires c κs =
+    let t = c .before .before .before in
+    let s = t .before .before .before .before .before .before .before .before .before .before .before .before .before in
+    let small = numbers-small (lent s) _ _ _ (omega arith) _ (t .tell-buffers .ensures) in
+    (omega (arith, t .before .before .before .before .loop .inv .3, s .pre .0 .law .sizes .few), (search needs, (search needs, small)))
 
 loop-again : tie.Need-loop-again Inv-loop μ-loop
 loop-again c =
-    let f = c .fault .ensures in
-    let w = c .before .before .before .put-line in
-    let j = c .before .before .before .before .before .tell-buffer .ensures in
-    let p = c .before .before .before .before .before .before .before in
-    let l = p .loop in
-    let e = l .inv in
-    let m = lent (p .before .before .before .before .before .before .before .before .before) in
-    let line =
-    subst (λ (t : Told). Wrote (l .output) (l .at) (lineOf (l .i) (t .number) (t .value)) (w .last .0) (w .result)) j
-    (w .ensures .0) in (
+    let w = c .before .before .before .before .put-rows .ensures in
+    let t = c .before .before .before .before .before .before .before .before in
+    let m = lent (t .before .before .before .before .before .before .before .before .before .before .before .before .before) in
+    let e = t .before .before .before .before .loop .inv in (
       search needs,
-      omega (arith, f .1, e .1),
-      omega (arith, w .ensures .1, e .2),
-      rw (add-one, total-suc)
-          (ap (λ (x : ℕ). l .faults + x) (f .0 ∙ ap (λ (t : Told). faultOf (t .number)) j) ∙ ap (λ (x : ℕ). x + faultOf (numberOf m (l .i))) (e .3)),
-      rw (add-one, flat-suc) (then (e .4) line),
+      omega (arith, c .count-faults .ensures .1, e .1),
+      search needs,
+      omega (arith, w .1, e .3),
+      omega (arith, faults-more m _ _ _ (omega arith) _ (t .tell-buffers .ensures), c .count-faults .ensures .0, e .4),
+      rw (lines-more m _ _ _ (omega arith) _ (t .tell-buffers .ensures)) (then (e .5) (w .0)),
     )
 
 put-chain-requires : tie.Need-put-chain-requires Inv-loop μ-loop
@@ -81,7 +81,7 @@ put-chain-requires c κs =
     let z = s .pre .0 .law .sizes in
     let few = chain-short (s .args .g) (s .args .records .now) in
     let below = ending-below (s .args .g) (s .args .records .now) z in (
-      omega (arith, l .loop .inv .0, l .loop .inv .2, z .few),
+      omega (arith, l .loop .inv .0, l .loop .inv .3, z .few),
       (omega (arith, few, s .pre .1 .1 .0, z .few), subst (λ (e : Ending). endingValue e < mostBuffers) (sym (s .pre .1 .1 .1)) (omega (arith, below, z .few))),
     )
 
@@ -99,9 +99,9 @@ whole c =
     let h = t .before .before .before .before .put-header in
     let s = t .before .before .before .before .before .before .before .before .before .before in
     subst (λ (x : List ℕ). Wrote (s .args .output .now) 0 x (w .last .0) (w .result))
-    (report-is (lent s) (l .i) (l .faults) (s .args .met) (s .args .ending) (omega (arith, t .loop-test .left, l .inv .0)) (l .inv .3)
+    (report-is (lent s) (l .i) (l .faults) (s .args .met) (s .args .ending) (omega (arith, t .loop-test .left, l .inv .0)) (l .inv .4)
     (s .pre .1 .1 .0) (s .pre .1 .1 .1))
-    (then (then (then (h .ensures .0) (l .inv .4)) (k .ensures .0)) (w .ensures .0))
+    (then (then (then (h .ensures .0) (l .inv .5)) (k .ensures .0)) (w .ensures .0))
 
 pub put-report-spec : {M : Type 1} → statement M
 put-report-spec =
@@ -111,8 +111,13 @@ put-report-spec =
     μ-loop
     (λ c κs. search needs)
     loop-holds
+    (λ c. search needs)
     (λ c κs. search needs)
-    put-line-requires
+    (λ c. search needs)
+    tell-buffers-requires
+    (λ c. search needs)
+    put-rows-requires
+    (λ c. search needs)
     (λ c κs. search needs)
     (λ c. search needs)
     (λ c. search needs)
