@@ -1,42 +1,19 @@
 -- The lines and the faults of some buffers, read from their rows, follow those of the buffers before them. Assumes nothing.
 use mathlib.Core.Path.{_≡_, refl, sym, ap, _∙_}
-use mathlib.Core.List.{List, [], _∷_, _++_, append-assoc, append-nil}
-use Prim.Native.Nat.{ℕ, zero, suc, _+_, _*_, _≤_, _<_}
-use native.Mathlib.Nat.{add-zero, add-suc}
+use mathlib.Core.List.{List, _++_}
+use Prim.Native.Nat.{ℕ, _+_, _*_, _≤_, _<_}
 use native.Mathlib.Omega.{arith}
-use lib.ListN.{length, getD, drop, List·getD-append}
+use lib.ListN.{length, getD}
 use lib.Seq.{sets}
-use Rattle.words.specs.Word.{flat}
-use Rattle.words.specs.Sum.{total}
-use Rattle.words.proofs.Parts.{below, length-flat, sets-front, getD-flat, flat-same}
-use Rattle.words.proofs.Sums.{total-same}
+use Rattle.words.proofs.Parts.{flat-same, flat-add, getD-written}
+use Rattle.words.proofs.Sums.{total-same, total-add}
 use Rattle.sheet.specs.Areas.{Image}
 use Rattle.verdicts.specs.Judge.{verdictOf, rowsOf}
 use Rattle.verdicts.proofs.Rows.{row}
-use Rattle.lines.proofs.Texts.{verdict-small}
 use Rattle.lines.specs.Text.{lineOf, linesOf, faultOf, faultsIn}
+use Rattle.lines.proofs.Texts.{verdict-small}
 use Rattle.report.specs.Answer.{numberOf, valueOf}
-use Rattle.report.specs.Rows.{rowNumber, rowValue, rowLines}
-
--- two rows of parts one after the other
-pub flat-add : (f : ℕ → List ℕ) (m n : ℕ) → flat (m + n) f ≡ flat m f ++ flat n (λ i. f (m + i))
-unfolding flat
-flat-add f m zero = rw (add-zero m) (sym (append-nil (flat m f)))
-flat-add f m (suc n) = rw (add-suc m n, flat-add f m n) (append-assoc (flat m f) (flat n (λ i. f (m + i))) (f (m + n)))
-
-pub total-add : (f : ℕ → ℕ) (m n : ℕ) → total f (m + n) ≡ total f m + total (λ i. f (m + i)) n
-unfolding total
-total-add f m zero = rw (add-zero m) (sym (add-zero (total f m)))
-total-add f m (suc n) = rw (add-suc m n) (omega (arith, total-add f m n))
-
--- a number of parts of s numbers each that are written at the front
-pub getD-written : (s : ℕ) (f : ℕ → List ℕ) → ((i : ℕ) → length (f i) ≡ s) → (l : List ℕ) (n i k : ℕ) → n * s ≤ length l → i < n → k < s
-    → getD (sets l 0 (flat n f)) (i * s + k) 0 ≡ getD (f i) k 0
-getD-written s f size l n i k h p q =
-    let z = length-flat s f size n in
-    ap (λ (x : List ℕ). getD x (i * s + k) 0) (sets-front l (flat n f) (omega arith))
-    ∙ List·getD-append (flat n f) (drop (length (flat n f)) l) 0 (i * s + k) (omega (arith, below s p))
-    ∙ getD-flat s f size n i k p q
+use Rattle.report.specs.Rows.{rowNumber, rowLines}
 
 -- the rows of `count` buffers from one on
 module _ (m : Image) (first count : ℕ) (l : List ℕ) (fits : count * 3 ≤ length l) (rows : List ℕ) (e : rows ≡ sets l 0 (rowsOf m first count)) where

@@ -37,7 +37,7 @@ fn report_marked(
     }
 }
 
-// Writes the report of an image that is open. Nothing is kept of a buffer, and of a record one byte.
+// Writes the report of an image that is open. Nothing is kept of a buffer whose line is put, and of a record one byte.
 fn report_image(heap: &[u8], records: &[u8], g: Sheet, output: &mut [u8]) -> Answer
     requires { ⌜ Open (length (now heap)) (length (now records)) g ⌝ }
     ensures { λ r. ⌜ filling r (now (output .exit))

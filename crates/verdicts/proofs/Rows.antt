@@ -2,14 +2,12 @@
 use mathlib.Core.Path.{_≡_}
 use mathlib.Core.List.{List, [], _∷_}
 use Prim.Native.Nat.{ℕ, suc, _+_}
-use native.Mathlib.Nat.{add-zero}
 use native.Mathlib.Omega.{arith}
-use lib.ListN.{set, getD, replicate}
+use lib.ListN.{set}
 use lib.Seq.{sets}
-use Rattle.words.specs.Word.{flat}
 use Rattle.tags.specs.Verdict.{toldOf}
 use Rattle.sheet.specs.Areas.{Image}
-use Rattle.verdicts.specs.Judge.{verdictOf, rowOf, rowsOf}
+use Rattle.verdicts.specs.Judge.{verdictOf, rowOf}
 
 pub three-stores : (l : List ℕ) (at a b c : ℕ) → set (set (set l at a) (at + 1) b) (at + 2) c ≡ sets l at (a ∷ b ∷ c ∷ [])
 three-stores l at a b c =
@@ -20,9 +18,3 @@ three-stores l at a b c =
 -- the numbers of the buffer that is k behind another
 abbrev pub row : Image → ℕ → ℕ → List ℕ
 row m from k = rowOf (from + k) (toldOf (verdictOf m (from + k)))
-
--- one row, in a row of three numbers
-pub one-row : (m : Image) (i : ℕ) (l : List ℕ) → l ≡ sets (replicate 3 0) 0 (rowsOf m i 1)
-    → record { number = getD l 1 0; value = getD l 2 0 } ≡ toldOf (verdictOf m i)
-unfolding flat
-one-row m i l e = rw (e, add-zero i)

@@ -141,8 +141,8 @@ fn put_row(rows: &mut [u32], k: usize, i: usize, t: Told)
     rows[at + 2] = t.value;
 }
 
-// The verdicts on `count` buffers from one on, as numbers into a lent row, three for each. Whoever wants one verdict as numbers asks
-// here too, so that the judging has this one caller and is compiled into its loop.
+// The verdicts on `count` buffers from one on, as numbers into a lent row, three for each. The judging is compiled into the loop, and
+// what does not change from buffer to buffer is worked out once: so whoever wants many verdicts as numbers asks for many at a time.
 pub fn tell_buffers(
     heap: &[u8],
     records: &[u8],
@@ -166,28 +166,5 @@ pub fn tell_buffers(
         let t = judge_buffer(heap, records, g, from + k, marks, ending);
         put_row(rows, k, from + k, t);
         k += 1;
-    }
-}
-
-// The verdict on buffer i as numbers.
-pub fn tell_buffer(
-    heap: &[u8],
-    records: &[u8],
-    g: Sheet,
-    i: usize,
-    marks: &[u8],
-    ending: Ending,
-) -> Told
-    requires { ⌜ Open (length (now heap)) (length (now records)) g ⌝ }
-    requires { ⌜ i < g .count ⌝ }
-    requires { ⌜ now marks ≡ marksIn g (now records) ⌝ }
-    requires { ⌜ ending ≡ chainIn g (now records) .ending ⌝ }
-    ensures { λ r. ⌜ r ≡ toldOf (verdictOf (imageIn g (heap .entry) (records .entry)) i) ⌝ }
-{
-    let mut row = [0u32; 3];
-    tell_buffers(heap, records, g, i, 1, marks, ending, &mut row);
-    Told {
-        number: row[1],
-        value: row[2],
     }
 }

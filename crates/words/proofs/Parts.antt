@@ -8,7 +8,7 @@ use native.Mathlib.Nat.{add-zero, zero-add, add-suc, zero-mul, mul-le-mul-right,
 use native.Mathlib.Decide.{ℕ-discrete, decLe}
 use native.Mathlib.Numerals.{add-one}
 use native.Mathlib.Omega.{arith}
-use lib.ListN.{length, take, drop, getD, set, length-take, length-drop, length-append, length-set, take-append-drop, drop-of-length-le}
+use lib.ListN.{length, take, drop, getD, set, length-take, length-drop, length-append, length-set, take-append-drop, drop-of-length-le, List·getD-append}
 use lib.Seq.{sets, sets-eq, length-sets, take-take, take-length, drop-length, drop-drop, drop-append-le, drop-append-add, take-append-le, take-append-seam}
 use lib.Seq.{take-add, take-at, drop-at, length-take-le, drop-set-add, take-set-le, take-set-lt, drop-set-lt, drop-cons, getD-take, getD-drop, set-append-left}
 use Rattle.words.specs.Word.{part, flat}
@@ -262,6 +262,12 @@ unfolding flat
 flat-same f g zero h = refl
 flat-same f g (suc n) h = rw (flat-same f g n (λ i l. h i (omega arith)), h n (omega arith))
 
+-- those of two counts one after the other
+pub flat-add : (f : ℕ → List ℕ) (m n : ℕ) → flat (m + n) f ≡ flat m f ++ flat n (λ i. f (m + i))
+unfolding flat
+flat-add f m zero = rw (add-zero m) (sym (append-nil (flat m f)))
+flat-add f m (suc n) = rw (add-suc m n, flat-add f m n) (append-assoc (flat m f) (flat n (λ i. f (m + i))) (f (m + n)))
+
 -- of s bytes each
 module _ (s : ℕ) (f : ℕ → List ℕ) (size : (i : ℕ) → length (f i) ≡ s) where
   pub length-flat : (n : ℕ) → length (flat n f) ≡ n * s
@@ -285,6 +291,14 @@ module _ (s : ℕ) (f : ℕ → List ℕ) (size : (i : ℕ) → length (f i) ≡
 
   pub getD-flat : (n i k : ℕ) → i < n → k < s → getD (flat n f) (i * s + k) 0 ≡ getD (f i) k 0
   getD-flat n i k h l = sym (getD-part (flat n f) (i * s) s k l) ∙ ap (λ (x : List ℕ). getD x k 0) (part-flat n i h)
+
+  -- a number of the parts that are written over l
+  pub getD-written : (l : List ℕ) (n i k : ℕ) → n * s ≤ length l → i < n → k < s → getD (sets l 0 (flat n f)) (i * s + k) 0 ≡ getD (f i) k 0
+  getD-written l n i k h p q =
+      let z = length-flat n in
+      ap (λ (x : List ℕ). getD x (i * s + k) 0) (sets-front l (flat n f) (omega arith))
+      ∙ List·getD-append (flat n f) (drop (length (flat n f)) l) 0 (i * s + k) (omega (arith, below s p))
+      ∙ getD-flat n i k p q
 
   -- no part is written yet over l, one part more, and all of them
   pub flat-none : (l : List ℕ) → l ≡ sets l 0 (flat 0 f)

@@ -2,6 +2,7 @@
 use mathlib.Core.Path.{_≡_, refl, sym, ap}
 use mathlib.Core.Logic.{_≢_}
 use Prim.Native.Nat.{ℕ, zero, suc, _+_, _<_}
+use native.Mathlib.Nat.{add-zero, add-suc}
 use native.Mathlib.Decide.{ℕ-discrete}
 use native.Mathlib.Omega.{arith}
 use Rattle.words.specs.Sum.{total}
@@ -13,6 +14,12 @@ total-zero f = refl
 pub total-suc : (f : ℕ → ℕ) (n : ℕ) → total f (suc n) ≡ total f n + f n
 unfolding total
 total-suc f n = refl
+
+-- two sums one after the other
+pub total-add : (f : ℕ → ℕ) (m n : ℕ) → total f (m + n) ≡ total f m + total (λ i. f (m + i)) n
+unfolding total
+total-add f m zero = rw (add-zero m) (sym (add-zero (total f m)))
+total-add f m (suc n) = rw (add-suc m n) (omega (arith, total-add f m n))
 
 -- of zeros
 pub total-none : (n : ℕ) → total (λ i. 0) n ≡ 0
