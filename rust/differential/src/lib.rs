@@ -6,6 +6,7 @@
 mod case;
 pub mod hurt;
 mod image;
+pub mod latest;
 pub mod neighbours;
 pub mod samples;
 mod sequence;
