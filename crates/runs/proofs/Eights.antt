@@ -11,11 +11,12 @@ use lib.Arith.{mod-mul}
 use lib.Bits.{bitOr, bitXor, or-add-and, xor-add-and, and-le-l, and-le-r, xor-self, xor-mod, xor-shr}
 use lib.Count.{trailingZeros}
 use lib.Dec.{eqb, lit<}
-use Rattle.words.specs.Word.{part, bytesOf}
+use Rattle.words.specs.Word.{part}
 use Rattle.words.specs.Native.{lowBytes}
 use Rattle.runs.specs.Run.{repeated, differenceFrom, difference, Alike}
 use Rattle.runs.specs.declared.run.Difference.the-variants.{At}
 use Rattle.words.proofs.Parts.{part-none, part-two}
+use Rattle.words.proofs.Loads.{length-low}
 use Rattle.runs.proofs.Runs.{repeated-twice, repeated-add}
 
 -- ---- differences gathered by `|` and made by `^` are none
@@ -106,22 +107,22 @@ loaded-same k l at y v e none = sym e ∙ ap (lowBytes k) (xor-none y v none)
 -- ---- runs that are compared by eights
 
 -- no bytes are alike
-pub alike-none : (l : List ℕ) (at len w : ℕ) → Alike l at len w 0
+pub alike-none : (l : List ℕ) (at len : ℕ) (w : List ℕ) → Alike l at len w 0
 unfolding repeated
 alike-none l at len w = record { within = omega arith; eights = refl; same = part-none l at }
 
 -- a word twice
-pub twice-joined : (w x v : ℕ) → lowBytes 4 x ≡ bytesOf 4 w → lowBytes 8 v ≡ lowBytes 4 x ++ lowBytes 4 x → lowBytes 8 v ≡ repeated 8 w
-twice-joined w x v ex ev = ev ∙ rw ex (sym (repeated-twice w))
+pub twice-joined : (w v : ℕ) → lowBytes 8 v ≡ lowBytes 4 w ++ lowBytes 4 w → lowBytes 8 v ≡ repeated 8 (lowBytes 4 w)
+twice-joined w v e = e ∙ sym (repeated-twice (lowBytes 4 w) (length-low 4 w))
 
 -- eight bytes more of a run are alike
-pub same-more : (l : List ℕ) (at i p e w : ℕ) → part l at i ≡ repeated i w → part l p 8 ≡ repeated 8 w → at + i ≡ p → i + 8 ≡ e → i % 8 ≡ 0
+pub same-more : (l : List ℕ) (at i p e : ℕ) (w : List ℕ) → part l at i ≡ repeated i w → part l p 8 ≡ repeated 8 w → at + i ≡ p → i + 8 ≡ e → i % 8 ≡ 0
     → part l at e ≡ repeated e w
 same-more l at i p e w es ep pp pe h =
     rw (← pe, repeated-add i 8 w (omega arith), ← part-two l at i 8, es, pp, ep)
 
 -- and thirty-two
-pub same-block : (l : List ℕ) (at i w v : ℕ) → lowBytes 8 v ≡ repeated 8 w → i % 8 ≡ 0 → part l at i ≡ repeated i w
+pub same-block : (l : List ℕ) (at i : ℕ) (w : List ℕ) (v : ℕ) → lowBytes 8 v ≡ repeated 8 w → i % 8 ≡ 0 → part l at i ≡ repeated i w
     → part l (at + i) 8 ≡ lowBytes 8 v → part l (at + i + 8) 8 ≡ lowBytes 8 v → part l (at + i + 16) 8 ≡ lowBytes 8 v
     → part l (at + i + 24) 8 ≡ lowBytes 8 v → part l at (i + 32) ≡ repeated (i + 32) w
 same-block l at i w v ev h es a b c d =

@@ -3,14 +3,15 @@ use mathlib.Core.Path.{_≡_, refl, sym, ap, _∙_}
 use mathlib.Core.Bool.{Bool, true, false, cond}
 use mathlib.Core.List.{List, [], _∷_, _++_, append-assoc, append-nil}
 use Prim.Native.Nat.{ℕ, zero, suc, _+_, _-_, _%_, _≤_, _<_}
-use native.Mathlib.Nat.{add-zero, zero-add, add-suc}
+use native.Mathlib.Nat.{add-zero, zero-add, add-suc, mod-eq-of-lt}
 use native.Mathlib.Decide.{ℕ-discrete}
 use native.Mathlib.Omega.{arith}
 use borrow.Author.Tests.{eq-eqb, ne-eqb}
 use lib.Dec.{eqb}
 use lib.ListN.{length, getD, replicate, length-append, length-replicate, getD-replicate, List·getD-append}
 use lib.Seq.{sets, ext-getD, getD-at}
-use Rattle.words.specs.Word.{part, bytesOf}
+use Rattle.words.specs.Word.{part}
+use Rattle.words.specs.Native.{lowBytes}
 use Rattle.runs.specs.Run.{repeated, differenceFrom, difference}
 use Rattle.runs.specs.declared.run.Difference.{Difference}
 use Rattle.runs.specs.declared.run.Difference.the-variants.{At, Nowhere}
@@ -18,25 +19,25 @@ use Rattle.words.proofs.Parts.{length-part, getD-part, part-two, sets-then}
 
 -- ---- a word again and again
 
-pub length-repeated : (n w : ℕ) → length (repeated n w) ≡ n
+pub length-repeated : (n : ℕ) (w : List ℕ) → length (repeated n w) ≡ n
 unfolding repeated
 length-repeated zero w = refl
 length-repeated (suc n) w = simp (length-append, length-repeated n w) (omega arith)
 
-pub getD-repeated : (n w i : ℕ) → i < n → getD (repeated n w) i 0 ≡ getD (bytesOf 4 w) (i % 4) 0
+pub getD-repeated : (n : ℕ) (w : List ℕ) (i : ℕ) → i < n → getD (repeated n w) i 0 ≡ getD w (i % 4) 0
 unfolding repeated
 getD-repeated zero w i h = absurd (omega arith)
 getD-repeated (suc n) w i h = go (ℕ-discrete i n) (getD-repeated n w i)
   where
-    go : Dec (i ≡ n) → (i < n → getD (repeated n w) i 0 ≡ getD (bytesOf 4 w) (i % 4) 0)
-        → getD (repeated n w ++ (getD (bytesOf 4 w) (n % 4) 0 ∷ [])) i 0 ≡ getD (bytesOf 4 w) (i % 4) 0
-    go (yes e) ih = rw e (getD-at (repeated n w) (getD (bytesOf 4 w) (n % 4) 0) [] 0 n (length-repeated n w))
+    go : Dec (i ≡ n) → (i < n → getD (repeated n w) i 0 ≡ getD w (i % 4) 0)
+        → getD (repeated n w ++ (getD w (n % 4) 0 ∷ [])) i 0 ≡ getD w (i % 4) 0
+    go (yes e) ih = rw e (getD-at (repeated n w) (getD w (n % 4) 0) [] 0 n (length-repeated n w))
     go (no ne) ih =
         let g : i < n = omega arith in
-        List·getD-append (repeated n w) (getD (bytesOf 4 w) (n % 4) 0 ∷ []) 0 i (omega (arith, length-repeated n w)) ∙ ih g
+        List·getD-append (repeated n w) (getD w (n % 4) 0 ∷ []) 0 i (omega (arith, length-repeated n w)) ∙ ih g
 
 -- its first bytes
-pub part-repeated : (n k w : ℕ) → k ≤ n → part (repeated n w) 0 k ≡ repeated k w
+pub part-repeated : (n k : ℕ) (w : List ℕ) → k ≤ n → part (repeated n w) 0 k ≡ repeated k w
 part-repeated n k w h =
     let e : length (part (repeated n w) 0 k) ≡ k = length-part (repeated n w) 0 k (omega (arith, length-repeated n w)) in
     ext-getD 0 (part (repeated n w) 0 k) (repeated k w)
@@ -49,25 +50,24 @@ part-repeated n k w h =
     ∙ sym (getD-repeated k w i q))
 
 -- a run behind whole words
-pub repeated-add : (i n w : ℕ) → i % 4 ≡ 0 → repeated (i + n) w ≡ repeated i w ++ repeated n w
+pub repeated-add : (i n : ℕ) (w : List ℕ) → i % 4 ≡ 0 → repeated (i + n) w ≡ repeated i w ++ repeated n w
 unfolding repeated
 repeated-add i zero w h = rw (add-zero i, append-nil)
 repeated-add i (suc n) w h =
     let e : i + suc n ≡ suc (i + n) = omega arith in
     let m : (i + n) % 4 ≡ n % 4 = omega arith in
-    rw (e, m, repeated-add i n w h) (append-assoc (repeated i w) (repeated n w) (getD (bytesOf 4 w) (n % 4) 0 ∷ []))
+    rw (e, m, repeated-add i n w h) (append-assoc (repeated i w) (repeated n w) (getD w (n % 4) 0 ∷ []))
 
--- a word once, and one word more
-pub repeated-once : (w : ℕ) → repeated 4 w ≡ bytesOf 4 w
-unfolding repeated bytesOf
-repeated-once w = refl
+-- four bytes once, and twice
+pub repeated-once : (w : List ℕ) → length w ≡ 4 → repeated 4 w ≡ w
+repeated-once w e =
+    ext-getD 0 (repeated 4 w) w (length-repeated 4 w ∙ sym e)
+    (λ i l.
+    let h : i < 4 = omega (arith, length-repeated 4 w) in
+    getD-repeated 4 w i h ∙ ap (λ (k : ℕ). getD w k 0) (mod-eq-of-lt h))
 
-pub repeated-more : (n w : ℕ) → n % 4 ≡ 0 → repeated (n + 4) w ≡ repeated n w ++ bytesOf 4 w
-repeated-more n w h = repeated-add n 4 w h ∙ ap (λ (r : List ℕ). repeated n w ++ r) (repeated-once w)
-
--- two words
-pub repeated-twice : (w : ℕ) → repeated 8 w ≡ bytesOf 4 w ++ bytesOf 4 w
-repeated-twice w = repeated-more 4 w refl ∙ ap (λ (r : List ℕ). r ++ bytesOf 4 w) (repeated-once w)
+pub repeated-twice : (w : List ℕ) → length w ≡ 4 → repeated 8 w ≡ w ++ w
+repeated-twice w e = repeated-add 4 4 w refl ∙ ap (λ (r : List ℕ). r ++ r) (repeated-once w e)
 
 -- ---- the first place at which two lists differ
 
@@ -167,20 +167,20 @@ nowhere-from {xs} {ys} e = rw e (same-nowhere ys)
 -- ---- runs that are filled or compared from the front
 
 -- n bytes more of a run are filled
-pub fill-more : (l s t vs : List ℕ) (at i n p e w : ℕ) → s ≡ sets l at (repeated i w) → t ≡ sets s p vs → vs ≡ repeated n w
+pub fill-more : (l s t vs : List ℕ) (at i n p e : ℕ) (w : List ℕ) → s ≡ sets l at (repeated i w) → t ≡ sets s p vs → vs ≡ repeated n w
     → at + i ≡ p → i + n ≡ e → i % 4 ≡ 0 → t ≡ sets l at (repeated e w)
 fill-more l s t vs at i n p e w es et ev ep ee h =
     rw (et, es, ev, ← ee, repeated-add i n w h) (sets-then l at i p (repeated i w) (repeated n w) (length-repeated i w) ep)
 
 -- the bytes of a run are those of a repeated word up to i
-abbrev pub SameTo : List ℕ → ℕ → ℕ → ℕ → Type 0
-SameTo s at w i = (k : ℕ) → k < i → getD s (at + k) 0 ≡ getD (bytesOf 4 w) (k % 4) 0
+abbrev pub SameTo : List ℕ → ℕ → List ℕ → ℕ → Type 0
+SameTo s at w i = (k : ℕ) → k < i → getD s (at + k) 0 ≡ getD w (k % 4) 0
 
-module _ (s : List ℕ) (at len w : ℕ) (fits : at + len ≤ length s) where
-  both : (k : ℕ) → k < len → getD s (at + k) 0 ≡ getD (bytesOf 4 w) (k % 4) 0 → getD (part s at len) k 0 ≡ getD (repeated len w) k 0
+module _ (s : List ℕ) (at len : ℕ) (w : List ℕ) (fits : at + len ≤ length s) where
+  both : (k : ℕ) → k < len → getD s (at + k) 0 ≡ getD w (k % 4) 0 → getD (part s at len) k 0 ≡ getD (repeated len w) k 0
   both k h e = getD-part s at len k h ∙ e ∙ sym (getD-repeated len w k h)
 
-  pub run-differs : (i : ℕ) → i < len → SameTo s at w i → (getD s (at + i) 0 ≡ getD (bytesOf 4 w) (i % 4) 0 → ⊥)
+  pub run-differs : (i : ℕ) → i < len → SameTo s at w i → (getD s (at + i) 0 ≡ getD w (i % 4) 0 → ⊥)
       → difference (part s at len) (repeated len w) ≡ At i
   run-differs i h same ne =
       differs-at 0 (part s at len) (repeated len w) i (omega (arith, length-part s at len fits)) (omega (arith, length-repeated len w))
@@ -228,7 +228,7 @@ module _ (s : List ℕ) (at len w : ℕ) (fits : at + len ≤ length s) where
   run-within o d e g = part-within s at len (repeated len w) d o fits e g
 
 -- the first i bytes of a run repeat the word, and in the n behind them there is a difference
-pub run-among : (s : List ℕ) (at len w : ℕ) → at + len ≤ length s → (i n o : ℕ) (vs : List ℕ) (r : Difference) → i + n ≤ len → i % 4 ≡ 0 → n % 4 ≡ 0
+pub run-among : (s : List ℕ) (at len : ℕ) (w : List ℕ) → at + len ≤ length s → (i n o : ℕ) (vs : List ℕ) (r : Difference) → i + n ≤ len → i % 4 ≡ 0 → n % 4 ≡ 0
     → part s at i ≡ repeated i w → r ≡ difference (part s (at + i) n) vs → vs ≡ repeated n w → r ≡ At o
     → At (i + o) ≡ difference (part s at len) (repeated len w)
 run-among s at len w fits i n o vs r h m q e er ev ed =
@@ -236,15 +236,17 @@ run-among s at len w fits i n o vs r h m q e er ev ed =
     (run-front s (at + i) (len - i) w (omega arith) n vs r (omega arith) er ev o q ed) refl
 
 -- the word 0 again and again is 0 again and again
-zero-byte : (k : ℕ) → getD (bytesOf 4 0) k 0 ≡ 0
-unfolding bytesOf
+zero-byte : (k : ℕ) → getD (lowBytes 4 0) k 0 ≡ 0
+unfolding lowBytes
 zero-byte zero = refl
 zero-byte (suc zero) = refl
 zero-byte (suc (suc zero)) = refl
 zero-byte (suc (suc (suc zero))) = refl
 zero-byte (suc (suc (suc (suc k)))) = refl
 
-pub repeated-none : (n : ℕ) → repeated n 0 ≡ replicate n 0
+pub repeated-none : (n : ℕ) → repeated n (lowBytes 4 0) ≡ replicate n 0
 repeated-none n =
-    ext-getD 0 (repeated n 0) (replicate n 0) (length-repeated n 0 ∙ sym (length-replicate n 0))
-    (λ i l. let h : i < n = omega (arith, length-repeated n 0) in getD-repeated n 0 i h ∙ zero-byte (i % 4) ∙ sym (getD-replicate n i 0 0 h))
+    ext-getD 0 (repeated n (lowBytes 4 0)) (replicate n 0) (length-repeated n (lowBytes 4 0) ∙ sym (length-replicate n 0))
+    (λ i l.
+    let h : i < n = omega (arith, length-repeated n (lowBytes 4 0)) in
+    getD-repeated n (lowBytes 4 0) i h ∙ zero-byte (i % 4) ∙ sym (getD-replicate n i 0 0 h))

@@ -10,10 +10,9 @@ use words::native;
 
 // The number whose eight bytes, the lowest first, are a word twice.
 pub(crate) fn twice(w: u32) -> u64
-    ensures { λ r. ⌜ lowBytes 8 r ≡ repeated 8 w ⌝ }
+    ensures { λ r. ⌜ lowBytes 8 r ≡ repeated 8 (lowBytes 4 w) ⌝ }
 {
-    let x = native::swap4(w);
-    native::join8(x, x)
+    native::join8(w, w)
 }
 
 // The first place at which the eight bytes at an offset differ from those of v. The lowest bit that differs lies in the first
@@ -35,7 +34,7 @@ pub(crate) fn difference_at(s: &[u8], at: usize, v: u64) -> Difference
 pub(crate) fn alike_blocks(s: &[u8], at: usize, len: usize, w: u32) -> usize
     requires { ⌜ at + len ≤ length (now s) ⌝ }
     requires { ⌜ 8 ≤ len ⌝ }
-    ensures { λ r. ⌜ Alike (now (s .entry)) at len w r ⌝ }
+    ensures { λ r. ⌜ Alike (now (s .entry)) at len (lowBytes 4 w) r ⌝ }
 {
     let v = twice(w);
     if native::load8(s, at) != v {

@@ -1,13 +1,14 @@
-// Runs of bytes that repeat a word.
+// Runs of bytes that repeat a word. The word is given as the number whose bytes, the lowest first, are those to repeat: whoever calls has
+// turned it into its order, and nothing here knows of one.
 ghost use mathlib.Core.Path.{_≡_};
 ghost use Prim.Native.Nat.{_+_, _%_, _≤_};
 ghost use lib.ListN.{length};
 ghost use lib.Seq.{sets};
 ghost use Rattle.words.specs.Word.{part};
+ghost use Rattle.words.specs.Native.{lowBytes};
 ghost use Rattle.runs.specs.Run.{repeated, difference};
 use crate::eight;
 use words::native;
-use words::word;
 
 // Where two runs of bytes differ first, counted from their start.
 pub enum Difference {
@@ -19,7 +20,7 @@ pub enum Difference {
 pub fn fill(s: &mut [u8], at: usize, len: usize, w: u32)
     requires { ⌜ at + len ≤ length (now s) ⌝ }
     requires { ⌜ len % 8 ≡ 0 ⌝ }
-    ensures { λ _. ⌜ now (s .exit) ≡ sets (now (s .entry)) at (repeated len w) ⌝ }
+    ensures { λ _. ⌜ now (s .exit) ≡ sets (now (s .entry)) at (repeated len (lowBytes 4 w)) ⌝ }
 {
     let v = eight::twice(w);
     let mut i = 0;
@@ -33,9 +34,9 @@ pub fn fill(s: &mut [u8], at: usize, len: usize, w: u32)
 // does.
 pub fn word_difference(s: &[u8], at: usize, w: u32) -> Difference
     requires { ⌜ at + 4 ≤ length (now s) ⌝ }
-    ensures { λ r. ⌜ r ≡ difference (part (now (s .entry)) at 4) (repeated 4 w) ⌝ }
+    ensures { λ r. ⌜ r ≡ difference (part (now (s .entry)) at 4) (lowBytes 4 w) ⌝ }
 {
-    let x = native::load4(s, at) ^ native::swap4(w);
+    let x = native::load4(s, at) ^ w;
     if x == 0 {
         return Difference::Nowhere;
     }
@@ -45,7 +46,7 @@ pub fn word_difference(s: &[u8], at: usize, w: u32) -> Difference
 // The first place at which the eight bytes at an offset differ from a word twice.
 pub fn two_words_difference(s: &[u8], at: usize, w: u32) -> Difference
     requires { ⌜ at + 8 ≤ length (now s) ⌝ }
-    ensures { λ r. ⌜ r ≡ difference (part (now (s .entry)) at 8) (repeated 8 w) ⌝ }
+    ensures { λ r. ⌜ r ≡ difference (part (now (s .entry)) at 8) (repeated 8 (lowBytes 4 w)) ⌝ }
 {
     eight::difference_at(s, at, eight::twice(w))
 }
@@ -54,7 +55,7 @@ pub fn two_words_difference(s: &[u8], at: usize, w: u32) -> Difference
 // compiler then puts it first.
 pub fn first_difference(s: &[u8], at: usize, len: usize, w: u32) -> Difference
     requires { ⌜ at + len ≤ length (now s) ⌝ }
-    ensures { λ r. ⌜ r ≡ difference (part (now (s .entry)) at len) (repeated len w) ⌝ }
+    ensures { λ r. ⌜ r ≡ difference (part (now (s .entry)) at len) (repeated len (lowBytes 4 w)) ⌝ }
 {
     if 8 <= len {
         return long_difference(s, at, len, w);
@@ -66,7 +67,7 @@ pub fn first_difference(s: &[u8], at: usize, len: usize, w: u32) -> Difference
 fn long_difference(s: &[u8], at: usize, len: usize, w: u32) -> Difference
     requires { ⌜ at + len ≤ length (now s) ⌝ }
     requires { ⌜ 8 ≤ len ⌝ }
-    ensures { λ r. ⌜ r ≡ difference (part (now (s .entry)) at len) (repeated len w) ⌝ }
+    ensures { λ r. ⌜ r ≡ difference (part (now (s .entry)) at len) (repeated len (lowBytes 4 w)) ⌝ }
 {
     let head = two_words_difference(s, at, w);
     if let Difference::At(o) = head {
@@ -89,7 +90,7 @@ pub fn difference_by_eights(s: &[u8], at: usize, len: usize, w: u32) -> Differen
     requires { ⌜ at + len ≤ length (now s) ⌝ }
     requires { ⌜ 8 ≤ len ⌝ }
     requires { ⌜ len % 8 ≡ 0 ⌝ }
-    ensures { λ r. ⌜ r ≡ difference (part (now (s .entry)) at len) (repeated len w) ⌝ }
+    ensures { λ r. ⌜ r ≡ difference (part (now (s .entry)) at len) (repeated len (lowBytes 4 w)) ⌝ }
 {
     let v = eight::twice(w);
     let mut i = eight::alike_blocks(s, at, len, w);
@@ -106,9 +107,9 @@ pub fn difference_by_eights(s: &[u8], at: usize, len: usize, w: u32) -> Differen
 // The same, one byte after the other.
 pub fn difference_by_bytes(s: &[u8], at: usize, len: usize, w: u32) -> Difference
     requires { ⌜ at + len ≤ length (now s) ⌝ }
-    ensures { λ r. ⌜ r ≡ difference (part (now (s .entry)) at len) (repeated len w) ⌝ }
+    ensures { λ r. ⌜ r ≡ difference (part (now (s .entry)) at len) (repeated len (lowBytes 4 w)) ⌝ }
 {
-    let pattern = word::bytes4(w);
+    let pattern = native::bytes4(w);
     let mut i = 0;
     while i < len {
         if s[at + i] != pattern[i % 4] {

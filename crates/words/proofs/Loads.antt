@@ -1,21 +1,28 @@
 -- The laws of numbers in bytes with the lowest first, and what loads and stores come to, each stated once over the width. Assumes nothing.
 use mathlib.Core.Path.{_≡_, refl, sym, ap, _∙_}
-use mathlib.Core.List.{List, [], _∷_, _++_, reverse, reverse-cons, reverse-append, reverse-reverse}
+use mathlib.Core.List.{List, [], _∷_, _++_}
 use Prim.Native.Nat.{ℕ, zero, suc, _+_, _*_, _/_, _%_, _^_, _≤_, _<_}
-use native.Mathlib.Nat.{pow-succ', one-le-pow, mod-lt, mod-eq-of-lt, zero-add, suc-add, mul-left-comm, div-one, div-add-mod', div-div-eq-div-mul}
+use native.Mathlib.Nat.{pow-succ', one-le-pow, mod-lt, mod-eq-of-lt, zero-add, suc-add, mul-left-comm, div-add-mod'}
 use native.Mathlib.Omega.{arith}
 use lib.Dec.{lit<}
 use lib.ListN.{length, getD, set}
 use lib.Seq.{sets}
-use Rattle.words.specs.Word.{part, number, bytesOf, numberAt}
-use Rattle.words.specs.Native.{lowBytes}
+use Rattle.words.specs.Word.{part}
+use Rattle.words.specs.Native.{lowNumber, lowBytes}
 use Rattle.words.proofs.Parts.{part-none, part-cons, part-two, sets-then}
-use Rattle.words.proofs.Numbers.{number-back}
 
 pub length-low : (k v : ℕ) → length (lowBytes k v) ≡ k
 unfolding lowBytes
 length-low zero v = refl
 length-low (suc k) v = ap suc (length-low k (v / 256))
+
+-- a number that k bytes hold is read back from them
+pub low-back : (k v : ℕ) → v < 256 ^ k → lowNumber (lowBytes k v) ≡ v
+unfolding lowNumber lowBytes
+low-back zero v h = omega arith
+low-back (suc k) v h =
+    let s : v / 256 < 256 ^ k = omega (arith, pow-succ' 256 k) in
+    rw (low-back k (v / 256) s) (omega arith)
 
 -- the bytes of a number that has x as its lowest j bytes and y as the others
 pub low-join : (j k x y : ℕ) → x < 256 ^ j → lowBytes (j + k) (x + y * 256 ^ j) ≡ lowBytes j x ++ lowBytes k y
@@ -31,10 +38,18 @@ low-join (suc j) k x y h =
     rw (suc-add j k, m, q, low-join j k (x / 256) y s)
 
 -- and those of a number's two parts
-low-halves : (j k v : ℕ) → lowBytes j (v % 256 ^ j) ++ lowBytes k (v / 256 ^ j) ≡ lowBytes (j + k) v
+pub low-halves : (j k v : ℕ) → lowBytes j (v % 256 ^ j) ++ lowBytes k (v / 256 ^ j) ≡ lowBytes (j + k) v
 low-halves j k v =
     let e : v % 256 ^ j + v / 256 ^ j * 256 ^ j ≡ v = omega (arith, div-add-mod' v (256 ^ j)) in
     sym (low-join j k (v % 256 ^ j) (v / 256 ^ j) (mod-lt v (one-le-pow j 256 (lit< tt)))) ∙ ap (lowBytes (j + k)) e
+
+-- the first byte is replaced
+pub low-first : (k v b r : ℕ) → b < 256 → r ≡ v / 256 * 256 + b → lowBytes (suc k) r ≡ set (lowBytes (suc k) v) 0 b
+unfolding lowBytes
+low-first k v b r h e =
+    let m : r % 256 ≡ b = omega arith in
+    let q : r / 256 ≡ v / 256 = omega arith in
+    rw (m, q)
 
 -- one byte is loaded, and two halves are
 pub loaded-one : (l : List ℕ) (at : ℕ) → at + 1 ≤ length l → getD l at 0 < 256 → lowBytes 1 (getD l at 0) ≡ part l at 1
@@ -55,38 +70,3 @@ pub stored : (j k : ℕ) (l a b : List ℕ) (at v : ℕ) → a ≡ sets l at (lo
 stored j k l a b at v ea eb =
     rw (eb, ea, ← low-halves j k v)
     (sets-then l at j (at + j) (lowBytes j (v % 256 ^ j)) (lowBytes k (v / 256 ^ j)) (length-low j (v % 256 ^ j)) refl)
-
--- ---- the highest byte first
-
--- the lowest byte of a number is the last
-bytes-more : (k v : ℕ) → bytesOf (suc k) v ≡ bytesOf k (v / 256) ++ (v % 256 ∷ [])
-unfolding bytesOf
-bytes-more zero v = rw (div-one v)
-bytes-more (suc k) v =
-    let e : v / 256 ^ suc k ≡ v / 256 / 256 ^ k = ap (λ (m : ℕ). v / m) (pow-succ' 256 k) ∙ sym (div-div-eq-div-mul v 256 (256 ^ k)) in
-    rw e (ap (λ (bs : List ℕ). v / 256 / 256 ^ k % 256 ∷ bs) (bytes-more k v))
-
-bytes-backwards : (k v : ℕ) → bytesOf k v ≡ reverse (lowBytes k v)
-unfolding bytesOf lowBytes
-bytes-backwards zero v = refl
-bytes-backwards (suc k) v =
-    bytes-more k v ∙ rw (bytes-backwards k (v / 256)) (sym (reverse-cons (v % 256) (lowBytes k (v / 256))))
-
--- one byte is swapped, and two halves are
-pub swapped-one : (v : ℕ) → lowBytes 1 v ≡ bytesOf 1 v
-unfolding lowBytes bytesOf
-swapped-one v = rw (div-one v)
-
-pub swapped : (j k v x y r : ℕ) → lowBytes k y ≡ bytesOf k (v / 256 ^ j) → lowBytes j x ≡ bytesOf j (v % 256 ^ j)
-    → lowBytes (k + j) r ≡ lowBytes k y ++ lowBytes j x → lowBytes (k + j) r ≡ bytesOf (j + k) v
-swapped j k v x y r ey ex er =
-    er
-    ∙ rw (ey, ex, bytes-backwards k (v / 256 ^ j), bytes-backwards j (v % 256 ^ j), bytes-backwards (j + k) v, ← low-halves j k v)
-    (sym (reverse-append (lowBytes j (v % 256 ^ j)) (lowBytes k (v / 256 ^ j))))
-
--- a number that was loaded and swapped is the number of the bytes
-pub read-swapped : (k : ℕ) (l : List ℕ) (at x r : ℕ) → r < 256 ^ k → lowBytes k x ≡ part l at k → lowBytes k r ≡ bytesOf k x → r ≡ numberAt k l at
-unfolding numberAt
-read-swapped k l at x r h ex er =
-    let e : bytesOf k r ≡ lowBytes k x = bytes-backwards k r ∙ ap reverse (er ∙ bytes-backwards k x) ∙ reverse-reverse (lowBytes k x) in
-    sym (number-back k r h) ∙ ap number (e ∙ ex)

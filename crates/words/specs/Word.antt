@@ -1,7 +1,10 @@
--- Parts of a list of bytes, and numbers in bytes. Assumes nothing.
-use mathlib.Core.List.{List, [], _∷_, _++_}
-use Prim.Native.Nat.{ℕ, zero, suc, _+_, _*_, _/_, _%_, _^_}
-use lib.ListN.{length, take, drop}
+-- Parts of a list of bytes, and numbers in bytes, in either order. Assumes nothing.
+use mathlib.Core.List.{List, [], _++_, reverse}
+use Prim.Native.Nat.{ℕ, zero, suc}
+use lib.ListN.{take, drop}
+use Rattle.words.specs.Native.{lowNumber, lowBytes}
+use Rattle.words.specs.declared.word.Order.{Order}
+use Rattle.words.specs.declared.word.Order.the-variants.{HighFirst, LowFirst}
 
 -- the `len` bytes of `l` from `at` on
 unfoldable pub part : List ℕ → ℕ → ℕ → List ℕ
@@ -12,18 +15,20 @@ unfoldable pub flat : ℕ → (ℕ → List ℕ) → List ℕ
 flat zero f = []
 flat (suc n) f = flat n f ++ f n
 
--- W1 (the highest byte first): `number` and `bytesOf`, and nothing else, say which byte of a number comes first.
+-- W1 (the order of a number's bytes): `turned`, and nothing else, says which byte of a number comes first. It makes bytes in an order of bytes with the
+-- lowest first, and these of those.
+unfoldable pub turned : Order → List ℕ → List ℕ
+turned HighFirst bs = reverse bs
+turned LowFirst bs = bs
 
--- the number of some bytes, the first byte the highest
-unfoldable pub number : List ℕ → ℕ
-number [] = 0
-number (b ∷ bs) = b * 256 ^ length bs + number bs
+-- W1 (the number of some bytes in an order)
+unfoldable pub number : Order → List ℕ → ℕ
+number o bs = lowNumber (turned o bs)
 
--- the lowest k bytes of a number, the highest of them first
-unfoldable pub bytesOf : ℕ → ℕ → List ℕ
-bytesOf zero v = []
-bytesOf (suc k) v = v / 256 ^ k % 256 ∷ bytesOf k v
+-- W1 (the lowest k bytes of a number in an order)
+unfoldable pub bytesOf : Order → ℕ → ℕ → List ℕ
+bytesOf o k v = turned o (lowBytes k v)
 
 -- the number of the k bytes of `l` from `at` on
-unfoldable pub numberAt : ℕ → List ℕ → ℕ → ℕ
-numberAt k l at = number (part l at k)
+unfoldable pub numberAt : Order → ℕ → List ℕ → ℕ → ℕ
+numberAt o k l at = number o (part l at k)

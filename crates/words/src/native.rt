@@ -3,10 +3,11 @@
 ghost use mathlib.Core.Path.{_≡_};
 ghost use mathlib.Core.List.{_++_};
 ghost use Prim.Native.Nat.{_+_, _≤_};
-ghost use lib.ListN.{length};
+ghost use lib.ListN.{length, set};
 ghost use lib.Seq.{sets};
 ghost use Rattle.words.specs.Word.{part, bytesOf};
 ghost use Rattle.words.specs.Native.{lowBytes};
+ghost use Rattle.words.specs.declared.word.Order.the-variants.{HighFirst};
 
 // The number of two halves.
 fn join2(low: u8, high: u8) -> u16
@@ -29,15 +30,31 @@ pub fn join8(low: u32, high: u32) -> u64
 
 // The number whose bytes are those of another backwards.
 pub(crate) fn swap2(v: u16) -> u16
-    ensures { λ r. ⌜ lowBytes 2 r ≡ bytesOf 2 v ⌝ }
+    ensures { λ r. ⌜ lowBytes 2 r ≡ bytesOf HighFirst 2 v ⌝ }
 {
     join2((v / 256) as u8, (v % 256) as u8)
 }
 
 pub fn swap4(v: u32) -> u32
-    ensures { λ r. ⌜ lowBytes 4 r ≡ bytesOf 4 v ⌝ }
+    ensures { λ r. ⌜ lowBytes 4 r ≡ bytesOf HighFirst 4 v ⌝ }
 {
     join4(swap2((v / 65536) as u16), swap2((v % 65536) as u16))
+}
+
+pub(crate) fn swap8(v: u64) -> u64
+    ensures { λ r. ⌜ lowBytes 8 r ≡ bytesOf HighFirst 8 v ⌝ }
+{
+    join8(
+        swap4((v / 4294967296) as u32),
+        swap4((v % 4294967296) as u32),
+    )
+}
+
+// The number whose bytes are those of another, but for the first.
+pub fn with_first(v: u32, first: u8) -> u32
+    ensures { λ r. ⌜ lowBytes 4 r ≡ set (lowBytes 4 v) 0 first ⌝ }
+{
+    v / 256 * 256 + (first as u32)
 }
 
 // The number whose bytes stand at an offset.
@@ -99,4 +116,13 @@ pub fn store8(s: &mut [u8], at: usize, v: u64)
 {
     store4(s, at, (v % 4294967296) as u32);
     store4(s, at + 4, (v / 4294967296) as u32);
+}
+
+// The four bytes of a number.
+pub fn bytes4(v: u32) -> [u8; 4]
+    ensures { λ r. ⌜ r ≡ lowBytes 4 v ⌝ }
+{
+    let mut b = [0u8; 4];
+    store4(&mut b, 0, v);
+    b
 }

@@ -4,6 +4,7 @@ use Prim.Native.Nat.{_≤_, _-_, _%_}
 use native.Mathlib.Omega.{arith}
 use borrow.Author.Needs.{needs}
 use Rattle.words.specs.Word.{part}
+use Rattle.words.specs.Native.{lowBytes}
 use Rattle.runs.specs.Run.{repeated, Alike}
 use Rattle.runs.proofs.Eights.{alike-none, same-block, none-of-four}
 use Rattle.runs.proofs.eight.alike_blocks.Statement.{statement}
@@ -11,7 +12,7 @@ use Rattle.runs.proofs.eight.alike_blocks.Tie as tie
 
 abbrev Inv-loop : tie.InvT-loop
 Inv-loop s at len w v whole a₀ b₀ c₀ d₀ i₀ a b c d i =
-    (i ≤ whole) × (i % 32 ≡ 0) × (a ≡ 0 → b ≡ 0 → c ≡ 0 → d ≡ 0 → part s at i ≡ repeated i w)
+    (i ≤ whole) × (i % 32 ≡ 0) × (a ≡ 0 → b ≡ 0 → c ≡ 0 → d ≡ 0 → part s at i ≡ repeated i (lowBytes 4 w))
 
 abbrev μ-loop : tie.MeasureT-loop
 μ-loop s at len w v whole a₀ b₀ c₀ d₀ i₀ a b c d i = whole - i

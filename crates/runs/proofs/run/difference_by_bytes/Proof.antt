@@ -7,12 +7,12 @@ use borrow.Author.Count.{below-more}
 use borrow.Author.Needs.{needs}
 use lib.ListN.{getD}
 use Rattle.runs.proofs.Runs.{run-differs, run-same}
-use Rattle.words.specs.Word.{bytesOf}
+use Rattle.words.specs.Native.{lowBytes}
 use Rattle.runs.proofs.run.difference_by_bytes.Statement.{statement}
 use Rattle.runs.proofs.run.difference_by_bytes.Tie as tie
 
 abbrev Inv-loop : tie.InvT-loop
-Inv-loop s at len w pattern i₀ i = (pattern ≡ bytesOf 4 w) × (i ≤ len) × ((k : ℕ) → k < i → getD s (at + k) 0 ≡ getD (bytesOf 4 w) (k % 4) 0)
+Inv-loop s at len w pattern i₀ i = (pattern ≡ lowBytes 4 w) × (i ≤ len) × ((k : ℕ) → k < i → getD s (at + k) 0 ≡ getD (lowBytes 4 w) (k % 4) 0)
 
 abbrev μ-loop : tie.MeasureT-loop
 μ-loop s at len w pattern i₀ i = len - i

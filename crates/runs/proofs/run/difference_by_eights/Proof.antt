@@ -3,6 +3,7 @@ use mathlib.Core.Path.{_≡_, refl, sym}
 use Prim.Native.Nat.{_-_}
 use native.Mathlib.Omega.{arith}
 use borrow.Author.Needs.{needs}
+use Rattle.words.specs.Native.{lowBytes}
 use Rattle.runs.specs.Run.{Alike}
 use Rattle.runs.proofs.Runs.{part-within, run-among, front-same, nowhere-from}
 use Rattle.runs.proofs.Eights.{same-more}
@@ -10,7 +11,7 @@ use Rattle.runs.proofs.run.difference_by_eights.Statement.{statement}
 use Rattle.runs.proofs.run.difference_by_eights.Tie as tie
 
 abbrev Inv-loop : tie.InvT-loop
-Inv-loop s at len w v i₀ i = Alike s at len w i
+Inv-loop s at len w v i₀ i = Alike s at len (lowBytes 4 w) i
 
 abbrev μ-loop : tie.MeasureT-loop
 μ-loop s at len w v i₀ i = len - i

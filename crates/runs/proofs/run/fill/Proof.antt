@@ -5,13 +5,14 @@ use native.Mathlib.Omega.{arith}
 use borrow.Author.Needs.{needs}
 use lib.Seq.{sets}
 use lib.ListN.{length}
+use Rattle.words.specs.Native.{lowBytes}
 use Rattle.runs.specs.Run.{repeated}
 use Rattle.runs.proofs.Runs.{fill-more}
 use Rattle.runs.proofs.run.fill.Statement.{statement}
 use Rattle.runs.proofs.run.fill.Tie as tie
 
 abbrev Inv-loop : tie.InvT-loop
-Inv-loop s₀ at len w v i₀ s i = (length s ≡ length s₀) × (i % 8 ≡ 0) × (i ≤ len) × (s ≡ sets s₀ at (repeated i w))
+Inv-loop s₀ at len w v i₀ s i = (length s ≡ length s₀) × (i % 8 ≡ 0) × (i ≤ len) × (s ≡ sets s₀ at (repeated i (lowBytes 4 w)))
 
 abbrev μ-loop : tie.MeasureT-loop
 μ-loop s₀ at len w v i₀ s i = len - i

@@ -1,6 +1,6 @@
 -- The bytes change places. Assumes nothing.
 use borrow.Author.Needs.{needs}
-use Rattle.words.proofs.Loads.{swapped, swapped-one}
+use Rattle.words.proofs.Numbers.{swapped, swapped-one}
 use Rattle.words.proofs.native.swap2.Statement.{statement}
 use Rattle.words.proofs.native.swap2.Tie as tie
 

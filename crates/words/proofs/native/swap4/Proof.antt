@@ -1,6 +1,6 @@
 -- The halves change places, and each is swapped. Assumes nothing.
 use borrow.Author.Needs.{needs}
-use Rattle.words.proofs.Loads.{swapped}
+use Rattle.words.proofs.Numbers.{swapped}
 use Rattle.words.proofs.native.swap4.Statement.{statement}
 use Rattle.words.proofs.native.swap4.Tie as tie
 
