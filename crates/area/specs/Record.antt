@@ -1,9 +1,11 @@
 -- The format of a record. Assumes nothing.
 use mathlib.Core.List.{List, _++_}
-use Prim.Native.Nat.{ℕ, _+_, _-_, _*_}
+use Prim.Native.Nat.{ℕ, _+_, _-_, _*_, _/_, _%_}
 use lib.ListN.{replicate}
 use lib.Seq.{sets}
 use Rattle.words.specs.Word.{bytesOf, numberAt}
+use Rattle.tags.specs.Format.{wordBytes, wordAt}
+use Rattle.tags.specs.declared.format.Format.{Format}
 use Rattle.area.specs.declared.record.Stamp.{Stamp}
 
 -- A2 (a record has 96 bytes), A3 (the offsets of its words)
@@ -16,48 +18,48 @@ nextAt = 0
 abbrev pub bufferAt : ℕ
 bufferAt = 4
 
-abbrev pub stampHighAt : ℕ
-stampHighAt = 16
-
-abbrev pub stampLowAt : ℕ
-stampLowAt = 20
+abbrev pub stampAt : ℕ
+stampAt = 16
 
 abbrev pub threadAt : ℕ
 threadAt = 24
 
 -- A2, A3 (the word at an offset of record j)
-unfoldable pub recordWord : List ℕ → ℕ → ℕ → ℕ
-recordWord records j offset = numberAt 4 records (j * recordSize + offset)
+unfoldable pub recordWord : Format → List ℕ → ℕ → ℕ → ℕ
+recordWord f records j offset = wordAt f records (j * recordSize + offset)
 
 -- A3 (the next word of record j)
-abbrev pub nextWord : List ℕ → ℕ → ℕ
-nextWord records j = recordWord records j nextAt
+abbrev pub nextWord : Format → List ℕ → ℕ → ℕ
+nextWord f records j = recordWord f records j nextAt
 
 -- A3 (the buffer address of record j: the buffer that it names)
-abbrev pub addressWord : List ℕ → ℕ → ℕ
-addressWord records j = recordWord records j bufferAt
+abbrev pub addressWord : Format → List ℕ → ℕ → ℕ
+addressWord f records j = recordWord f records j bufferAt
 
--- A3 (the timestamp of record j, its high half and its low half)
-abbrev pub stampHigh : List ℕ → ℕ → ℕ
-stampHigh records j = recordWord records j stampHighAt
+-- A3 (the timestamp of record j, one number of eight bytes), its high half and its low half
+unfoldable pub stampNumber : Format → List ℕ → ℕ → ℕ
+stampNumber f records j = numberAt (f .order) 8 records (j * recordSize + stampAt)
 
-abbrev pub stampLow : List ℕ → ℕ → ℕ
-stampLow records j = recordWord records j stampLowAt
+abbrev pub highHalf : ℕ → ℕ
+highHalf stamp = stamp / 4294967296
+
+abbrev pub lowHalf : ℕ → ℕ
+lowHalf stamp = stamp % 4294967296
 
 -- K8 (what a call is stamped with: its uptime and its thread)
 abbrev pub stampOf : ℕ → ℕ → Stamp
 stampOf uptime thread = record { uptime = uptime; thread = thread }
 
 -- K7 (the next word), in record j
-unfoldable pub withNext : List ℕ → ℕ → ℕ → List ℕ
-withNext records j next = sets records (j * recordSize + nextAt) (bytesOf 4 next)
+unfoldable pub withNext : Format → List ℕ → ℕ → ℕ → List ℕ
+withNext f records j next = sets records (j * recordSize + nextAt) (wordBytes f next)
 
--- K8 (the stamp: timestamp and thread), in record j
-unfoldable pub stamped : List ℕ → ℕ → Stamp → List ℕ
-stamped records j s =
-    sets (sets records (j * recordSize + stampHighAt) (bytesOf 4 0 ++ bytesOf 4 (s .uptime))) (j * recordSize + threadAt) (bytesOf 4 (s .thread))
+-- K8 (the stamp: timestamp, whose high half is 0 since an uptime is a word, and thread), in record j
+unfoldable pub stamped : Format → List ℕ → ℕ → Stamp → List ℕ
+stamped f records j s =
+    sets (sets records (j * recordSize + stampAt) (bytesOf (f .order) 8 (s .uptime))) (j * recordSize + threadAt) (wordBytes f (s .thread))
 
 -- K4 (the bytes of a record that is laid out): next at 0, buffer address 4, slab 8, cache 12, and 0 up to its end
-unfoldable pub recordBytes : ℕ → ℕ → ℕ → List ℕ
-recordBytes next buffer cache =
-    bytesOf 4 next ++ bytesOf 4 buffer ++ bytesOf 4 0 ++ bytesOf 4 cache ++ replicate (recordSize - stampHighAt) 0
+unfoldable pub recordBytes : Format → ℕ → ℕ → ℕ → List ℕ
+recordBytes f next buffer cache =
+    wordBytes f next ++ wordBytes f buffer ++ wordBytes f 0 ++ wordBytes f cache ++ replicate (recordSize - stampAt) 0

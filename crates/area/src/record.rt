@@ -1,13 +1,15 @@
-// The format of a record: next at 0, the buffer's address at 4, the slab at 8, the cache at 12, the stamp's high half at 16 and its
-// low half at 20, the thread at 24; the rest is not read.
+// The format of a record: next at 0, the buffer's address at 4, the slab at 8, the cache at 12, the stamp, one number of eight bytes,
+// at 16, the thread at 24; the rest is not read.
 ghost use mathlib.Core.Path.{_≡_};
 ghost use Prim.Native.Nat.{_+_, _-_, _*_, _≤_};
 ghost use lib.ListN.{length};
 ghost use lib.Seq.{sets};
-ghost use Rattle.words.specs.Word.{part, numberAt};
+ghost use Rattle.words.specs.Word.{part};
+ghost use Rattle.tags.specs.Format.{wordAt};
 ghost use Rattle.area.specs.Place.{PartAt};
-ghost use Rattle.area.specs.Record.{recordSize, recordWord, withNext, stamped, recordBytes};
+ghost use Rattle.area.specs.Record.{recordSize, recordWord, stampNumber, withNext, stamped, recordBytes};
 use runs::run;
+use tags::format::Format;
 use window::Word;
 use words::word;
 
@@ -21,9 +23,7 @@ const SLAB: usize = 8;
 
 const CACHE: usize = 12;
 
-pub const STAMP_HIGH: usize = 16;
-
-pub const STAMP_LOW: usize = 20;
+const STAMP: usize = 16;
 
 const THREAD: usize = 24;
 
@@ -33,27 +33,38 @@ pub struct Stamp {
     pub thread: u32,
 }
 
-// The word at an address, read through the window of the records, which stand from `base` on. It lies whole inside, so that it
-// is a word, and the other case does not arise.
-pub fn read_at(records: &[u8], base: u32, address: u32) -> u32
+// The word at an address, read through the window of the records, which stand from `base` on, and turned into the image's order. It
+// lies whole inside, so that it is a word, and the other case does not arise.
+pub fn read_at(f: Format, records: &[u8], base: u32, address: u32) -> u32
     requires { ⌜ base ≤ address ⌝ }
     requires { ⌜ address + 4 ≤ base + length (now records) ⌝ }
-    ensures { λ r. ⌜ r ≡ numberAt 4 (now (records .entry)) (address - base) ⌝ }
+    ensures { λ r. ⌜ r ≡ wordAt f (now (records .entry)) (address - base) ⌝ }
 {
+    let o = f.order;
     let w = window::read_word(records, base, address);
     match w {
-        Word::At(v) => v,
+        Word::At(v) => word::reordered(o, v),
         Word::NoWord => 0,
     }
 }
 
 // The word at an offset of record j, which has an index and is read by its place.
-pub fn read(records: &[u8], j: usize, offset: usize) -> u32
+pub fn read(f: Format, records: &[u8], j: usize, offset: usize) -> u32
     requires { ⌜ j * recordSize + recordSize ≤ length (now records) ⌝ }
     requires { ⌜ offset + 4 ≤ recordSize ⌝ }
-    ensures { λ r. ⌜ r ≡ recordWord (now (records .entry)) j offset ⌝ }
+    ensures { λ r. ⌜ r ≡ recordWord f (now (records .entry)) j offset ⌝ }
 {
-    word::read_u32(records, j * SIZE + offset)
+    let o = f.order;
+    word::read_u32(o, records, j * SIZE + offset)
+}
+
+// The timestamp of record j.
+pub fn read_stamp(f: Format, records: &[u8], j: usize) -> u64
+    requires { ⌜ j * recordSize + recordSize ≤ length (now records) ⌝ }
+    ensures { λ r. ⌜ r ≡ stampNumber f (now (records .entry)) j ⌝ }
+{
+    let o = f.order;
+    word::read_u64(o, records, j * SIZE + STAMP)
 }
 
 // Record j, as a part of the record area.
@@ -68,34 +79,36 @@ pub fn whole<'a>(records: &'a [u8], j: usize) -> &'a [u8]
 }
 
 // Writes the next word of record j.
-pub fn set_next(records: &mut [u8], j: usize, next: u32)
+pub fn set_next(f: Format, records: &mut [u8], j: usize, next: u32)
     requires { ⌜ j * recordSize + recordSize ≤ length (now records) ⌝ }
-    ensures { λ _. ⌜ now (records .exit) ≡ withNext (now (records .entry)) j next ⌝ }
+    ensures { λ _. ⌜ now (records .exit) ≡ withNext f (now (records .entry)) j next ⌝ }
 {
-    word::write_u32(records, j * SIZE + NEXT, next);
+    let o = f.order;
+    word::write_u32(o, records, j * SIZE + NEXT, next);
 }
 
 // Writes the stamp, whose high half is 0, and the thread of record j.
-pub fn set_stamp(records: &mut [u8], j: usize, s: Stamp)
+pub fn set_stamp(f: Format, records: &mut [u8], j: usize, s: Stamp)
     requires { ⌜ j * recordSize + recordSize ≤ length (now records) ⌝ }
-    ensures { λ _. ⌜ now (records .exit) ≡ stamped (now (records .entry)) j s ⌝ }
+    ensures { λ _. ⌜ now (records .exit) ≡ stamped f (now (records .entry)) j s ⌝ }
 {
+    let o = f.order;
     let at = j * SIZE;
-    word::write_u32(records, at + STAMP_HIGH, 0);
-    word::write_u32(records, at + STAMP_LOW, s.uptime);
-    word::write_u32(records, at + THREAD, s.thread);
+    word::write_u64(o, records, at + STAMP, s.uptime as u64);
+    word::write_u32(o, records, at + THREAD, s.thread);
 }
 
 // Writes record j whole: its next word, the address of its buffer and the cache, and 0 elsewhere.
-pub fn write(records: &mut [u8], j: usize, next: u32, buffer: u32, cache: u32)
+pub fn write(f: Format, records: &mut [u8], j: usize, next: u32, buffer: u32, cache: u32)
     requires { ⌜ j * recordSize + recordSize ≤ length (now records) ⌝ }
     ensures { λ _. ⌜ now (records .exit)
-        ≡ sets (now (records .entry)) (j * recordSize) (recordBytes next buffer cache) ⌝ }
+        ≡ sets (now (records .entry)) (j * recordSize) (recordBytes f next buffer cache) ⌝ }
 {
+    let o = f.order;
     let at = j * SIZE;
-    word::write_u32(records, at + NEXT, next);
-    word::write_u32(records, at + BUFFER, buffer);
-    word::write_u32(records, at + SLAB, 0);
-    word::write_u32(records, at + CACHE, cache);
-    run::fill(records, at + STAMP_HIGH, SIZE - STAMP_HIGH, 0);
+    word::write_u32(o, records, at + NEXT, next);
+    word::write_u32(o, records, at + BUFFER, buffer);
+    word::write_u32(o, records, at + SLAB, 0);
+    word::write_u32(o, records, at + CACHE, cache);
+    run::fill(records, at + STAMP, SIZE - STAMP, 0);
 }

@@ -3,8 +3,10 @@ ghost use mathlib.Core.Path.{_≡_};
 ghost use mathlib.Core.Bool.{true};
 ghost use lib.ListN.{length};
 ghost use Rattle.runs.specs.Run.{repeated};
+ghost use Rattle.tags.specs.Format.{wordBytes};
 ghost use Rattle.chunks.specs.Chunk.{ChunkLength, lawfulSize, redzone, chunkOf, bufferSize, freeChunk, grantedChunk, tagAt};
 use runs::run;
+use tags::format::Format;
 use tags::size_code;
 use tags::tag::State;
 use tags::tag::Tag;
@@ -25,40 +27,47 @@ pub enum Grant {
 }
 
 // Writes a whole chunk: a fill word again and again, R0, R1 and a tag.
-fn write(chunk: &mut [u8], fill: u32, r1: u32, tag: Tag)
+fn write(f: Format, chunk: &mut [u8], fill: u32, r1: u32, tag: Tag)
     requires { ⌜ ChunkLength (length (now chunk)) ⌝ }
     ensures { λ _. ⌜ now (chunk .exit)
-        ≡ chunkOf (repeated (bufferSize (now (chunk .entry))) fill) redzone r1 (tag .t0) (tag .t1) ⌝ }
+        ≡ chunkOf f (repeated (bufferSize (now (chunk .entry))) (wordBytes f fill)) redzone r1 (tag .t0) (tag .t1) ⌝ }
 {
+    let o = f.order;
     let size = chunk.len() - 16;
-    run::fill(chunk, 0, size, fill);
-    word::write_u32(chunk, size, REDZONE);
-    word::write_u32(chunk, size + 4, r1);
-    word::write_u32(chunk, size + 8, tag.t0);
-    word::write_u32(chunk, size + 12, tag.t1);
+    run::fill(chunk, 0, size, word::turn4(o, fill));
+    word::write_u32(o, chunk, size, REDZONE);
+    word::write_u32(o, chunk, size + 4, r1);
+    word::write_u32(o, chunk, size + 8, tag.t0);
+    word::write_u32(o, chunk, size + 12, tag.t1);
 }
 
 // Writes the chunk of a free buffer whose record is at an address.
-pub fn write_free(chunk: &mut [u8], record_at: u32)
+pub fn write_free(f: Format, chunk: &mut [u8], record_at: u32)
     requires { ⌜ ChunkLength (length (now chunk)) ⌝ }
-    ensures { λ _. ⌜ now (chunk .exit) ≡ freeChunk (bufferSize (now (chunk .entry))) «record_at» ⌝ }
+    ensures { λ _. ⌜ now (chunk .exit) ≡ freeChunk f (bufferSize (now (chunk .entry))) «record_at» ⌝ }
 {
-    write(chunk, FREE_FILL, REDZONE, Tag::new(record_at, State::Free));
+    write(
+        f,
+        chunk,
+        FREE_FILL,
+        REDZONE,
+        Tag::new(record_at, State::Free),
+    );
 }
 
 // Writes the chunk of a granted buffer whose record is at an address.
-pub fn write_granted(chunk: &mut [u8], record_at: u32, grant: Grant)
+pub fn write_granted(f: Format, chunk: &mut [u8], record_at: u32, grant: Grant)
     requires { ⌜ ChunkLength (length (now chunk)) ⌝ }
     requires { ⌜ lawfulSize (bufferSize (now chunk)) grant ≡ true ⌝ }
-    ensures { λ _. ⌜ now (chunk .exit) ≡ grantedChunk (bufferSize (now (chunk .entry))) «record_at» grant ⌝ }
+    ensures { λ _. ⌜ now (chunk .exit) ≡ grantedChunk f (bufferSize (now (chunk .entry))) «record_at» grant ⌝ }
 {
     let tag = Tag::new(record_at, State::Allocated);
     match grant {
         Grant::Whole => {
-            write(chunk, GRANT_FILL, REDZONE, tag);
+            write(f, chunk, GRANT_FILL, REDZONE, tag);
         }
         Grant::Sized(s) => {
-            write(chunk, GRANT_FILL, size_code::encode(s as u16), tag);
+            write(f, chunk, GRANT_FILL, size_code::encode(s as u16), tag);
             let i = s as usize;
             chunk[i] = GUARD;
         }
@@ -66,13 +75,14 @@ pub fn write_granted(chunk: &mut [u8], record_at: u32, grant: Grant)
 }
 
 // The tag of a chunk.
-pub fn read_tag(chunk: &[u8]) -> Tag
+pub fn read_tag(f: Format, chunk: &[u8]) -> Tag
     requires { ⌜ ChunkLength (length (now chunk)) ⌝ }
-    ensures { λ r. ⌜ r ≡ tagAt (now (chunk .entry)) ⌝ }
+    ensures { λ r. ⌜ r ≡ tagAt f (now (chunk .entry)) ⌝ }
 {
+    let o = f.order;
     let size = chunk.len() - 16;
     Tag {
-        t0: word::read_u32(chunk, size + 8),
-        t1: word::read_u32(chunk, size + 12),
+        t0: word::read_u32(o, chunk, size + 8),
+        t1: word::read_u32(o, chunk, size + 12),
     }
 }

@@ -3,7 +3,7 @@
 ghost use mathlib.Core.Path.{_≡_};
 ghost use Prim.Native.Nat.{_≤_};
 ghost use lib.ListN.{length};
-ghost use Rattle.words.specs.Word.{bytesOf};
+ghost use Rattle.words.specs.Native.{lowBytes};
 ghost use Rattle.tags.specs.Verdict.{toldOf};
 ghost use Rattle.tags.specs.declared.verdict.Verdict.{Verdict};
 ghost use Rattle.chunks.specs.Chunk.{ChunkLength, bufferSize};
@@ -11,75 +11,85 @@ ghost use Rattle.chunks.specs.Judge.{zoneVerdict, sizedVerdict, freeVerd
 use crate::chunk;
 use runs::run;
 use runs::run::Difference;
+use tags::format::Format;
 use tags::size_code;
 use tags::size_code::Decoded;
 use tags::verdict;
 use tags::verdict::Told;
 use tags::verdict::Verdict;
+use words::native;
 use words::word;
 
 // The verdict on a chunk of the free pattern.
-pub fn judge_free(chunk: &[u8]) -> Told
+pub fn judge_free(f: Format, chunk: &[u8]) -> Told
     requires { ⌜ ChunkLength (length (now chunk)) ⌝ }
-    ensures { λ r. ⌜ r ≡ toldOf (freeVerdict (now (chunk .entry))) ⌝ }
+    ensures { λ r. ⌜ r ≡ toldOf (freeVerdict f (now (chunk .entry))) ⌝ }
 {
+    let o = f.order;
     let size = chunk.len() - 16;
-    let fill = run::difference_by_eights(chunk, 0, size, chunk::FREE_FILL);
-    if let Difference::At(o) = fill {
-        return verdict::tell(Verdict::BadFill(o as u32));
+    let fill = run::difference_by_eights(chunk, 0, size, word::turn4(o, chunk::FREE_FILL));
+    if let Difference::At(at) = fill {
+        return verdict::tell(Verdict::BadFill(at as u32));
     }
-    let zone = run::two_words_difference(chunk, size, chunk::REDZONE);
+    let zone = run::two_words_difference(chunk, size, word::turn4(o, chunk::REDZONE));
     match zone {
-        Difference::At(o) => verdict::tell(Verdict::BadRedzone((size + o) as u32)),
+        Difference::At(at) => verdict::tell(Verdict::BadRedzone((size + at) as u32)),
         Difference::Nowhere => verdict::tell(Verdict::Free),
     }
 }
 
-// The verdict on R0, which should be `zone`; `sound` where it is.
+// The verdict on R0, whose bytes should be those of `zone`, the lowest first; `sound` where they are.
 fn judge_zone(chunk: &[u8], zone: u32, sound: Told) -> Told
     requires { ⌜ ChunkLength (length (now chunk)) ⌝ }
     ensures { λ r. ⌜ ((v : Verdict) → sound ≡ toldOf v
-        → r ≡ toldOf (zoneVerdict (now (chunk .entry)) (bytesOf 4 zone) v)) ⌝ }
+        → r ≡ toldOf (zoneVerdict (now (chunk .entry)) (lowBytes 4 zone) v)) ⌝ }
 {
     let size = chunk.len() - 16;
     let d = run::word_difference(chunk, size, zone);
     match d {
-        Difference::At(o) => verdict::tell(Verdict::Overrun((size + o) as u32)),
+        Difference::At(at) => verdict::tell(Verdict::Overrun((size + at) as u32)),
         Difference::Nowhere => sound,
     }
 }
 
 // The verdict on a chunk of the allocated pattern whose R1 is the code of s bytes. After a grant of the whole buffer's size the
 // guard byte stands on R0's first byte.
-fn judge_sized(chunk: &[u8], s: u32) -> Told
+fn judge_sized(f: Format, chunk: &[u8], s: u32) -> Told
     requires { ⌜ ChunkLength (length (now chunk)) ⌝ }
     requires { ⌜ s ≤ bufferSize (now chunk) ⌝ }
-    ensures { λ r. ⌜ r ≡ toldOf (sizedVerdict (now (chunk .entry)) s) ⌝ }
+    ensures { λ r. ⌜ r ≡ toldOf (sizedVerdict f (now (chunk .entry)) s) ⌝ }
 {
     let i = s as usize;
     if chunk[i] != chunk::GUARD {
         return verdict::tell(Verdict::Overrun(s));
     }
+    let o = f.order;
+    let zone = word::turn4(o, chunk::REDZONE);
     if i == chunk.len() - 16 {
-        let zone = word::with_first(chunk::REDZONE, chunk::GUARD);
-        return judge_zone(chunk, zone, verdict::tell(Verdict::Allocated(s)));
+        let guarded = native::with_first(zone, chunk::GUARD);
+        return judge_zone(chunk, guarded, verdict::tell(Verdict::Allocated(s)));
     }
-    judge_zone(chunk, chunk::REDZONE, verdict::tell(Verdict::Allocated(s)))
+    judge_zone(chunk, zone, verdict::tell(Verdict::Allocated(s)))
 }
 
 // The verdict on a chunk of the allocated pattern.
-pub fn judge_allocated(chunk: &[u8]) -> Told
+pub fn judge_allocated(f: Format, chunk: &[u8]) -> Told
     requires { ⌜ ChunkLength (length (now chunk)) ⌝ }
-    ensures { λ r. ⌜ r ≡ toldOf (allocatedVerdict (now (chunk .entry))) ⌝ }
+    ensures { λ r. ⌜ r ≡ toldOf (allocatedVerdict f (now (chunk .entry))) ⌝ }
 {
+    let o = f.order;
     let size = chunk.len() - 16;
-    let r1 = word::read_u32(chunk, size + 4);
+    let r1 = word::read_u32(o, chunk, size + 4);
     if r1 == chunk::REDZONE {
-        return judge_zone(chunk, chunk::REDZONE, verdict::tell(Verdict::Whole));
+        return judge_zone(
+            chunk,
+            word::turn4(o, chunk::REDZONE),
+            verdict::tell(Verdict::Whole),
+        );
     }
     let code = size_code::decode(r1, size as u32);
     match code {
         Decoded::Bad => verdict::tell(Verdict::BadSizeCode),
-        Decoded::Size(s) => judge_sized(chunk, s),
+        Decoded::Size(s) => judge_sized(f, chunk, s),
     }
 }

@@ -3,7 +3,8 @@ use mathlib.Core.Bool.{Bool, _&&_}
 use mathlib.Core.List.{List}
 use Prim.Native.Nat.{ℕ, _+_, _*_, _/_, _%_}
 use lib.Dec.{eqb, leb}
-use Rattle.words.specs.Word.{numberAt}
+use Rattle.tags.specs.Format.{wordAt}
+use Rattle.tags.specs.declared.format.Format.{Format}
 
 -- A4 (rows of 16 bytes, at most 16,384 bytes)
 abbrev pub rowSize : ℕ
@@ -21,9 +22,9 @@ unfoldable pub logRight : ℕ → Bool
 logRight l = eqb (l % rowSize) 0 && leb l logMost
 
 -- A5 (the record address of row k)
-unfoldable pub rowRecord : List ℕ → ℕ → ℕ
-rowRecord log k = numberAt 4 log (k * rowSize + 0)
+unfoldable pub rowRecord : Format → List ℕ → ℕ → ℕ
+rowRecord f log k = wordAt f log (k * rowSize + 0)
 
 -- A5 (the uptime of row k)
-unfoldable pub rowUptime : List ℕ → ℕ → ℕ
-rowUptime log k = numberAt 4 log (k * rowSize + 4)
+unfoldable pub rowUptime : Format → List ℕ → ℕ → ℕ
+rowUptime f log k = wordAt f log (k * rowSize + 4)

@@ -9,6 +9,7 @@ ghost use lib.ListN.{length};
 ghost use Rattle.words.specs.Word.{part};
 ghost use Rattle.area.specs.Place.{PartAt};
 ghost use Rattle.log.specs.Log.{rowSize, rowsOf, logRight, rowRecord, rowUptime};
+use tags::format::Format;
 use words::word;
 
 pub const ROW: usize = 16;
@@ -37,11 +38,12 @@ pub fn is_log(len: usize) -> bool
 }
 
 // The address of the record that row k names.
-pub fn row_record(log: &[u8], k: usize) -> u32
+pub fn row_record(f: Format, log: &[u8], k: usize) -> u32
     requires { ⌜ k * rowSize + rowSize ≤ length (now log) ⌝ }
-    ensures { λ r. ⌜ r ≡ rowRecord (now (log .entry)) k ⌝ }
+    ensures { λ r. ⌜ r ≡ rowRecord f (now (log .entry)) k ⌝ }
 {
-    word::read_u32(log, k * ROW + RECORD)
+    let o = f.order;
+    word::read_u32(o, log, k * ROW + RECORD)
 }
 
 // Row k, as a part of the log.
@@ -56,9 +58,10 @@ pub fn row<'a>(log: &'a [u8], k: usize) -> &'a [u8]
 }
 
 // The uptime of row k.
-pub fn row_uptime(log: &[u8], k: usize) -> u32
+pub fn row_uptime(f: Format, log: &[u8], k: usize) -> u32
     requires { ⌜ k * rowSize + rowSize ≤ length (now log) ⌝ }
-    ensures { λ r. ⌜ r ≡ rowUptime (now (log .entry)) k ⌝ }
+    ensures { λ r. ⌜ r ≡ rowUptime f (now (log .entry)) k ⌝ }
 {
-    word::read_u32(log, k * ROW + UPTIME)
+    let o = f.order;
+    word::read_u32(o, log, k * ROW + UPTIME)
 }

@@ -4,3 +4,4 @@ pub mod SizeCode
 pub mod Refusal
 pub mod Ending
 pub mod Filling
+pub mod Format

@@ -17,3 +17,6 @@ pub mod tag;
 
 // The size code in R1.
 pub mod size_code;
+
+// How an image writes its words and its grants.
+pub mod format;

@@ -1,9 +1,11 @@
 // An address window (A6): a base address and the lent bytes that stand from there on; a word partly outside is no word.
 // The functions over the struct only make it or take it apart; `word_in` and `byte_in` read. A caller that holds the bytes
-// and the base by themselves asks `read_word` or `read_byte`.
+// and the base by themselves asks `read_word` or `read_byte`. A word is read with the highest byte first: a window knows no image, and who
+// asks turns the word into the order of its image.
 ghost use mathlib.Core.Path.{_≡_};
 ghost use Rattle.window.specs.Window.{wordIn, byteIn};
 use words::word;
+use words::word::Order;
 
 pub struct Window<'a> {
     pub base: u32,
@@ -27,7 +29,7 @@ pub fn word_in(bytes: &[u8], base: u32, address: u32) -> Word
     if bytes.len() < at + 4 {
         return Word::NoWord;
     }
-    Word::At(word::read_u32(bytes, at))
+    Word::At(word::read_u32(Order::HighFirst, bytes, at))
 }
 
 // The byte at an address, in bytes that stand from `base` on.
