@@ -36,17 +36,18 @@ ifFree v p = cond (isFoundFree (verdictNumber v)) (Take p) (Refused (Damage v))
 abbrev pub takenBy : Pattern → List ℕ → Spot → AllocatePlan
 takenBy pattern.Neither c p = Refused (Damage verdict.BadTag)
 takenBy pattern.Allocated c p = Refused (Damage verdict.OnChain)
-takenBy pattern.Free c p = ifFree (freeVerdict c) p
+takenBy pattern.Free c p = ifFree (freeVerdict (p .sheet .format) c) p
 
 -- E5 (T0 is not the head: 21), for the chunk c of the head record's buffer
 unfoldable pub takenChunk : List ℕ → Spot → AllocatePlan
-takenChunk c p = cond (eqb (tagAt c .t0) (p .sheet .head)) (takenBy (patternOf (tagAt c)) c p) (Refused (Damage verdict.BadTag))
+takenChunk c p =
+    cond (eqb (tagAt (p .sheet .format) c .t0) (p .sheet .head)) (takenBy (patternOf (tagAt (p .sheet .format) c)) c p) (Refused (Damage verdict.BadTag))
 
 -- E5 (the head is no record's address 29, its buffer address is no buffer's 20)
 unfoldable pub takenHead : Image → AllocatePlan
 takenHead m =
     byPlace (recordOf (m .sheet) (m .sheet .head))
-    (λ j. byPlace (bufferOf (m .sheet) (addressWord (m .records) j)) (λ i. takenChunk (chunkAt m i) (spot (m .sheet) i j))
+    (λ j. byPlace (bufferOf (m .sheet) (addressWord (m .sheet .format) (m .records) j)) (λ i. takenChunk (chunkAt m i) (spot (m .sheet) i j))
     (Refused (Damage verdict.NotOneRecord)))
     (Refused BrokenHead)
 
@@ -61,9 +62,9 @@ allocatePlan a q = byImage (opening a) a (λ m. takenOf m q) Refused
 -- K6 (what allocate writes): the granted chunk, the record's stamp and thread, the new head; the next word stays
 unfoldable pub grantedAreas : Areas → Grant → Stamp → Spot → Areas
 grantedAreas a q s p =
-    areas (withHead (a .sheet) (nextWord (a .records) (p .own)))
-    (sets (a .heap) (chunkStart p) (grantedChunk (p .sheet .size) (p .sheet .head) q))
-    (stamped (a .records) (p .own) s)
+    areas (withHead (a .sheet) (nextWord (p .sheet .format) (a .records) (p .own)))
+    (sets (a .heap) (chunkStart p) (grantedChunk (p .sheet .format) (p .sheet .size) (p .sheet .head) q))
+    (stamped (p .sheet .format) (a .records) (p .own) s)
 
 -- K5 (allocate answers the buffer's address), E1 (a refusal): by its plan
 abbrev pub allocateResult : Areas → Grant → Stamp → AllocatePlan → Result Answer

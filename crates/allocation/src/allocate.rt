@@ -65,7 +65,8 @@ fn take_chunk(chunk: &[u8], p: Spot) -> AllocatePlan
     ensures { λ r. ⌜ r ≡ takenChunk (now (chunk .entry)) p ⌝ }
 {
     let g = p.sheet;
-    let tag = chunk::read_tag(chunk);
+    let f = g.format;
+    let tag = chunk::read_tag(f, chunk);
     if tag.t0 != g.head {
         return AllocatePlan::Refused(Refusal::Damage(Verdict::BadTag));
     }
@@ -73,7 +74,7 @@ fn take_chunk(chunk: &[u8], p: Spot) -> AllocatePlan
     match pattern {
         Pattern::Neither => AllocatePlan::Refused(Refusal::Damage(Verdict::BadTag)),
         Pattern::Allocated => AllocatePlan::Refused(Refusal::Damage(Verdict::OnChain)),
-        Pattern::Free => if_free(judge::judge_free(chunk), p),
+        Pattern::Free => if_free(judge::judge_free(f, chunk), p),
     }
 }
 

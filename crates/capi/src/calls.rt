@@ -1,5 +1,6 @@
 // The calls that a client makes.
 ghost use mathlib.Core.Path.{_≡_};
+ghost use Rattle.tags.specs.Format.{formatIf};
 ghost use Rattle.area.specs.Record.{stampOf};
 ghost use Rattle.sheet.specs.Areas.{before, after, result, answered};
 ghost use Rattle.layout.specs.Layout.{layOutOf};
@@ -16,6 +17,7 @@ use chunks::chunk::Grant;
 use client::show;
 use client::show::Shown;
 use client::store;
+use tags::format::Format;
 
 // What is asked for: where it is the whole buffer, the size is not read.
 fn grant(whole: bool, size: u32) -> Grant
@@ -27,9 +29,10 @@ fn grant(whole: bool, size: u32) -> Grant
     Grant::Sized(size)
 }
 
-// Lays out an image in which every buffer is free.
+// Lays out an image in which every buffer is free, its words low byte first or high byte first.
 #[no_mangle]
 pub extern "C" fn cg_lay_out(
+    low_first: bool,
     cache: u32,
     heap_base: u32,
     record_base: u32,
@@ -41,9 +44,12 @@ pub extern "C" fn cg_lay_out(
 ) -> u64
     ensures { λ r. ⌜ result r (after sheet heap records)
         ≡ answered answerWord
-        (layOutOf (before sheet heap records) cache «heap_base» «record_base» size count) ⌝ }
+        (layOutOf (before sheet heap records) (formatIf «low_first»)
+        cache «heap_base» «record_base» size count) ⌝ }
 {
+    let f = Format::of(low_first);
     answer::word(layout::lay_out(
+        f,
         cache,
         heap_base,
         record_base,

@@ -11,6 +11,7 @@ use Rattle.area.specs.declared.place.Place.{Place}
 use Rattle.area.specs.declared.place.Place.the-variants.{At, Nowhere}
 use Rattle.sheet.specs.Areas.{Image}
 use Rattle.geometry.specs.declared.sheet.Sheet.{Sheet}
+use Rattle.tags.specs.declared.format.Format.{Format}
 use Rattle.tags.specs.declared.ending.Ending.{Ending}
 use Rattle.tags.specs.declared.ending.Ending.the-variants.{End, Broken, Again}
 
@@ -51,12 +52,12 @@ chainFrom next at (suc k) seen w =
     (byPlace (at w) (λ i. cond (eqb (occ i seen) 0) (meets i (chainFrom next at k (i ∷ seen) (next i))) (stop (Again i))) (stop Broken))
 
 -- the same, of the n records in `records` at the address `base`
-unfoldable pub chainAfter : List ℕ → ℕ → ℕ → List ℕ → ℕ → Chain
-chainAfter records base n seen w = chainFrom (nextWord records) (placeOf base recordSize n) (suc n) seen w
+unfoldable pub chainAfter : Format → List ℕ → ℕ → ℕ → List ℕ → ℕ → Chain
+chainAfter f records base n seen w = chainFrom (nextWord f records) (placeOf base recordSize n) (suc n) seen w
 
 -- H1 (it starts at the head): the whole chain, of the records of a sheet
 unfoldable pub chainIn : Sheet → List ℕ → Chain
-chainIn g records = chainAfter records (g .«record_base») (g .count) [] (g .head)
+chainIn g records = chainAfter (g .format) records (g .«record_base») (g .count) [] (g .head)
 
 -- H1 (the chain of an image)
 abbrev pub chainOf : Image → Chain

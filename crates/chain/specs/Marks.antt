@@ -20,7 +20,7 @@ toTwo (suc (suc k)) = 2
 
 -- J1 (how many of the first j records name buffer i)
 abbrev pub namedBy : Sheet → List ℕ → ℕ → ℕ → ℕ
-namedBy g records j i = length (namers (addressWord records) j (bufferAddress g i))
+namedBy g records j i = length (namers (addressWord (g .format) records) j (bufferAddress g i))
 
 -- J1 (not one, one or several records name buffer i): the digit above the lowest, when the first j records are counted
 abbrev pub namesAfter : Sheet → List ℕ → ℕ → ℕ → ℕ

@@ -25,7 +25,7 @@ theOne (j ∷ (k ∷ l)) = NotOne
 
 -- J1 (the own record of buffer i), of the records of a sheet
 unfoldable pub ownIn : Sheet → List ℕ → ℕ → Own
-ownIn g records i = theOne (namers (addressWord records) (g .count) (bufferAddress g i))
+ownIn g records i = theOne (namers (addressWord (g .format) records) (g .count) (bufferAddress g i))
 
 -- J1 (the own record of buffer i of an image)
 abbrev pub ownOf : Image → ℕ → Own

@@ -8,6 +8,7 @@ use lib.Dec.{eqb}
 use lib.ListN.{length}
 use Rattle.area.specs.Place.{placeOf}
 use Rattle.area.specs.Record.{recordSize}
+use Rattle.tags.specs.declared.format.Format.{Format}
 use Rattle.geometry.specs.declared.sheet.Sheet.{Sheet}
 use Rattle.chain.specs.Chain.{occ, Chain, chainAfter, chainIn}
 use Rattle.area.specs.declared.place.Place.{Place}
@@ -63,9 +64,9 @@ pub record Gives (c : Chain) (rest : ℕ → ℕ) (seen : List ℕ) (base n befo
   pub marked : exit ≡ areaOf n rest (c .met ++ seen)
 
 -- whatever records `seen` the marks at entry stand for, and whatever stands above them, the walk is the chain from `word` with those met already
-abbrev pub WalkOf : List ℕ → ℕ → ℕ → ℕ → List ℕ → ℕ → ℕ → List ℕ → Type 0
-WalkOf records base n word entry before r exit =
-    (rest : ℕ → ℕ) (seen : List ℕ) → entry ≡ areaOf n rest seen → Gives (chainAfter records base n seen word) rest seen base n before r exit
+abbrev pub WalkOf : Format → List ℕ → ℕ → ℕ → ℕ → List ℕ → ℕ → ℕ → List ℕ → Type 0
+WalkOf f records base n word entry before r exit =
+    (rest : ℕ → ℕ) (seen : List ℕ) → entry ≡ areaOf n rest seen → Gives (chainAfter f records base n seen word) rest seen base n before r exit
 
 -- a slice that was lent is the same after, and as long, but for its bytes
 abbrev pub Stays : RefT (List ℕ) → RefT (List ℕ) → Type 0

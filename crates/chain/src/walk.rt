@@ -2,6 +2,7 @@
 ghost use mathlib.Core.Path.{_≡_};
 ghost use Prim.Native.Nat.{_+_, _*_, _%_, _≤_};
 ghost use lib.ListN.{length};
+ghost use Rattle.tags.specs.Format.{formatIf};
 ghost use Rattle.geometry.specs.Sheet.{recordsLength};
 ghost use Rattle.geometry.specs.Limits.{Lawful};
 ghost use Rattle.chain.specs.Walk.{wordValues, Walkable, WalkOf, Stays, WalkIn};
@@ -10,6 +11,7 @@ use area::place::Place;
 use area::record;
 use geometry::sheet::Sheet;
 use tags::ending::Ending;
+use tags::format::Format;
 
 // How many records a chain met, and how it ends.
 pub struct Walked {
@@ -39,9 +41,10 @@ fn with_met(b: u8) -> u8
 // The chain from `word` (H2 to H5), where the marks say which records are met already, `met` of them. It calls itself from the
 // next word, with one record fewer that is not yet met. That word is read at the record's own address, which `word` is.
 // No slice, struct or enum goes into that call or comes out of it, so that it is compiled to a loop: both slices are behind a
-// reference, and the length of a record is a number.
+// reference, the length of a record is a number and the order a truth value.
 fn walk(
     records: &&[u8],
+    low: bool,
     base: u32,
     size: usize,
     n: usize,
@@ -50,7 +53,7 @@ fn walk(
     met: u64,
 ) -> u64
     requires { ⌜ Walkable (now (now records)) size n (now (now marks)) met ⌝ }
-    ensures { λ r. ⌜ WalkOf (now (now (records .entry))) base n word
+    ensures { λ r. ⌜ WalkOf (formatIf low) (now (now (records .entry))) base n word
         (now (now (marks .entry))) met r (now (now (marks .exit)))
         × Stays (now (marks .entry)) (now (marks .exit)) ⌝ }
 {
@@ -65,12 +68,14 @@ fn walk(
                 return pack(met, word);
             }
             marks[i] = with_met(marks[i]);
+            let f = Format::of(low);
             walk(
                 records,
+                low,
                 base,
                 size,
                 n,
-                record::read_at(*records, base, word + record::NEXT as u32),
+                record::read_at(f, *records, base, word + record::NEXT as u32),
                 marks,
                 met + 1,
             )
@@ -80,13 +85,21 @@ fn walk(
 
 // The same from the head on, over the slice itself: it goes into a local, and the local is lent. The borrow checker does not
 // cover that of a parameter, so this one function is proved by hand.
-fn walk_lent(records: &&[u8], base: u32, size: usize, n: usize, head: u32, marks: &mut [u8]) -> u64
+fn walk_lent(
+    records: &&[u8],
+    low: bool,
+    base: u32,
+    size: usize,
+    n: usize,
+    head: u32,
+    marks: &mut [u8],
+) -> u64
     requires { ⌜ Walkable (now (now records)) size n (now marks) 0 ⌝ }
-    ensures { λ r. ⌜ WalkOf (now (now (records .entry))) base n head
+    ensures { λ r. ⌜ WalkOf (formatIf low) (now (now (records .entry))) base n head
         (now (marks .entry)) 0 r (now (marks .exit)) ⌝ }
 {
     let mut lent = marks;
-    walk(records, base, size, n, head, &mut lent, 0)
+    walk(records, low, base, size, n, head, &mut lent, 0)
 }
 
 // The chain from the head, in marks that have no record met yet. How the chain ends is told by the word at which it stops: 0,
@@ -97,8 +110,10 @@ pub(crate) fn walk_from(records: &[u8], g: Sheet, marks: &mut [u8]) -> Walked
     requires { ⌜ length (now marks) ≡ g .count ⌝ }
     ensures { λ r. ⌜ WalkIn g (now (records .entry)) (now (marks .entry)) r (now (marks .exit)) ⌝ }
 {
+    let f = g.format;
     let r = walk_lent(
         &records,
+        f.is_low(),
         g.record_base,
         record::SIZE,
         g.count,

@@ -40,8 +40,8 @@ freePlan a address q = byImage (opening a) a (λ m. freeTest q (heldOf m address
 unfoldable pub freedAreas : Areas → Stamp → Spot → Areas
 freedAreas a s p =
     areas (withHead (a .sheet) (recordStart p))
-    (sets (a .heap) (chunkStart p) (freeChunk (p .sheet .size) (recordStart p)))
-    (stamped (withNext (a .records) (p .own) (p .sheet .head)) (p .own) s)
+    (sets (a .heap) (chunkStart p) (freeChunk (p .sheet .format) (p .sheet .size) (recordStart p)))
+    (stamped (p .sheet .format) (withNext (p .sheet .format) (a .records) (p .own) (p .sheet .head)) (p .own) s)
 
 -- K7 (free), E1 (a refusal): by its plan
 abbrev pub freeResult : Areas → Stamp → Held → Result Answer

@@ -3,6 +3,7 @@ use Prim.Native.Nat.{ℕ, _+_, _*_}
 use Rattle.area.specs.Place.{placeAddress, placeOf}
 use Rattle.area.specs.Record.{recordSize}
 use Rattle.area.specs.declared.place.Place.{Place}
+use Rattle.tags.specs.declared.format.Format.{Format}
 use Rattle.geometry.specs.declared.sheet.Sheet.{Sheet}
 
 -- S6 (the flags)
@@ -10,8 +11,9 @@ abbrev pub flagsWord : ℕ
 flagsWord = 0x020f
 
 -- K2 (the sheet's numbers): the arguments, a chunk of buffer size plus 16, the chain from record 0, and the flags
-abbrev pub laidSheet : ℕ → ℕ → ℕ → ℕ → ℕ → Sheet
-laidSheet cache heapBase recordBase size n = record {
+abbrev pub laidSheet : Format → ℕ → ℕ → ℕ → ℕ → ℕ → Sheet
+laidSheet f cache heapBase recordBase size n = record {
+  format = f;
   cache = cache;
   «heap_base» = heapBase;
   «record_base» = recordBase;
@@ -25,6 +27,7 @@ laidSheet cache heapBase recordBase size n = record {
 -- B6 (a sheet but for its head)
 abbrev pub headed : Sheet → ℕ → Sheet
 headed g head = record {
+  format = g .format;
   cache = g .cache;
   «heap_base» = g .«heap_base»;
   «record_base» = g .«record_base»;

@@ -7,10 +7,12 @@ use crate::limits;
 use area::place;
 use area::place::Place;
 use area::record;
+use tags::format::Format;
 
-// The numbers of a sheet. `size` and `chunk` are the lengths of a buffer and of its chunk, `count` is the number of buffers and
-// of records, `head` the chain's first word.
+// The numbers of a sheet. `format` is how the image writes its words, `size` and `chunk` are the lengths of a buffer and of its chunk,
+// `count` is the number of buffers and of records, `head` the chain's first word.
 pub struct Sheet {
+    pub format: Format,
     pub cache: u32,
     pub heap_base: u32,
     pub record_base: u32,
@@ -23,10 +25,18 @@ pub struct Sheet {
 
 impl Sheet {
     // The sheet that lay out's arguments ask for: a chunk has 16 bytes more than its buffer, and the chain starts at record 0.
-    pub fn laid(cache: u32, heap_base: u32, record_base: u32, size: u32, count: u32) -> Sheet
-        ensures { λ r. ⌜ r ≡ laidSheet cache «heap_base» «record_base» size count ⌝ }
+    pub fn laid(
+        f: Format,
+        cache: u32,
+        heap_base: u32,
+        record_base: u32,
+        size: u32,
+        count: u32,
+    ) -> Sheet
+        ensures { λ r. ⌜ r ≡ laidSheet f cache «heap_base» «record_base» size count ⌝ }
     {
         Sheet {
+            format: f,
             cache,
             heap_base,
             record_base,

@@ -39,13 +39,15 @@ heldAs v p =
 abbrev pub heldBy : Pattern → List ℕ → Spot → Held
 heldBy pattern.Neither c p = Refused (Damage verdict.BadTag)
 heldBy pattern.Free c p = Refused NotAllocated
-heldBy pattern.Allocated c p = heldAs (allocatedVerdict c) p
+heldBy pattern.Allocated c p = heldAs (allocatedVerdict (p .sheet .format) c) p
 
 -- E6 (X7 with 21: T0 is no record's address, or that record does not name this buffer), for the chunk c of buffer i at an address
 unfoldable pub heldChunk : Image → List ℕ → ℕ → ℕ → Held
 heldChunk m c address i =
-    byPlace (recordOf (m .sheet) (tagAt c .t0))
-    (λ j. cond (eqb (addressWord (m .records) j) address) (heldBy (patternOf (tagAt c)) c (spot (m .sheet) i j)) (Refused (Damage verdict.BadTag)))
+    byPlace (recordOf (m .sheet) (tagAt (m .sheet .format) c .t0))
+    (λ j. cond (eqb (addressWord (m .sheet .format) (m .records) j) address)
+    (heldBy (patternOf (tagAt (m .sheet .format) c)) c (spot (m .sheet) i j))
+    (Refused (Damage verdict.BadTag)))
     (Refused (Damage verdict.BadTag))
 
 -- E6 (free, store and show: X4, X7 with 21, X8, X7 with 27 or 28), in an image

@@ -61,13 +61,16 @@ fn held_as(t: Told, spot: Spot) -> Held
 // The last step: the chunk's pattern and its own bytes.
 fn held_by(chunk: &[u8], spot: Spot) -> Held
     requires { ⌜ ChunkLength (length (now chunk)) ⌝ }
-    ensures { λ r. ⌜ r ≡ heldBy (patternOf (tagAt (now (chunk .entry)))) (now (chunk .entry)) spot ⌝ }
+    ensures { λ r. ⌜ r ≡ heldBy (patternOf (tagAt (spot .sheet .format) (now (chunk .entry))))
+        (now (chunk .entry)) spot ⌝ }
 {
-    let p = chunk::read_tag(chunk).pattern();
+    let g = spot.sheet;
+    let f = g.format;
+    let p = chunk::read_tag(f, chunk).pattern();
     match p {
         Pattern::Neither => Held::Refused(Refusal::Damage(Verdict::BadTag)),
         Pattern::Free => Held::Refused(Refusal::NotAllocated),
-        Pattern::Allocated => held_as(judge::judge_allocated(chunk), spot),
+        Pattern::Allocated => held_as(judge::judge_allocated(f, chunk), spot),
     }
 }
 
@@ -78,8 +81,9 @@ fn held_chunk(heap: &[u8], records: &[u8], g: Sheet, address: u32, buffer: usize
     ensures { λ r. ⌜ r ≡ heldChunk (imageIn g (heap .entry) (records .entry))
         (chunkIn g (now (heap .entry)) buffer) address buffer ⌝ }
 {
+    let f = g.format;
     let chunk = heap::chunk(heap, g, buffer);
-    let tag = chunk::read_tag(chunk);
+    let tag = chunk::read_tag(f, chunk);
     let named = g.find_record(tag.t0);
     match named {
         Place::Nowhere => Held::Refused(Refusal::Damage(Verdict::BadTag)),

@@ -15,6 +15,7 @@ use Rattle.sheet.specs.Opening.{numbered, byOpened, Open}
 use Rattle.geometry.specs.declared.sheet.Sheet.{Sheet}
 use Rattle.sheet.specs.declared.opening.Opened.{Opened}
 use Rattle.sheet.specs.declared.opening.Opened.the-variants as opened
+use Rattle.tags.specs.declared.format.Format.{Format}
 use Rattle.tags.specs.declared.refusal.Refusal.the-variants.{BadSheet}
 use Rattle.tags.specs.declared.refusal.Answer.{Answer}
 use Rattle.tags.specs.declared.refusal.Answer.the-variants.{Refused}
@@ -22,7 +23,7 @@ use Rattle.tags.specs.Refusal.{done}
 
 -- K3 (the chunk of buffer i): that of a free buffer, whose record is record i
 abbrev pub laidChunk : Sheet → ℕ → List ℕ
-laidChunk g i = freeChunk (g .size) (recordAddress g i)
+laidChunk g i = freeChunk (g .format) (g .size) (recordAddress g i)
 
 -- K4 (the next words): the word that leads to record i, its address, or 0 past the last
 unfoldable pub linkTo : Sheet → ℕ → ℕ
@@ -30,7 +31,7 @@ linkTo g i = cond (ltb i (g .count)) (recordAddress g i) 0
 
 -- K4 (the bytes of record i): it leads to record i + 1, and names buffer i
 abbrev pub laidRecord : Sheet → ℕ → List ℕ
-laidRecord g i = recordBytes (linkTo g (suc i)) (bufferAddress g i) (g .cache)
+laidRecord g i = recordBytes (g .format) (linkTo g (suc i)) (bufferAddress g i) (g .cache)
 
 -- K2 (the sheet), K3 (the heap), K4 (the records): the areas of an image that is laid out
 unfoldable pub laidAreas : Sheet → Areas
@@ -41,9 +42,9 @@ unfoldable pub layOutPlan : Sheet → ℕ → ℕ → ℕ → Opened
 layOutPlan g s h r = cond (eqb s sheetLength) (numbered g h r) (opened.Refused BadSheet)
 
 -- K2 to K4, E1, E4 (lay out)
-unfoldable pub layOutOf : Areas → ℕ → ℕ → ℕ → ℕ → ℕ → Result Answer
-layOutOf a cache heap records size n =
-    byOpened (layOutPlan (laidSheet cache heap records size n) (length (a .sheet)) (length (a .heap)) (length (a .records)))
+unfoldable pub layOutOf : Areas → Format → ℕ → ℕ → ℕ → ℕ → ℕ → Result Answer
+layOutOf a f cache heap records size n =
+    byOpened (layOutPlan (laidSheet f cache heap records size n) (length (a .sheet)) (length (a .heap)) (length (a .records)))
     (λ g. result done (laidAreas g))
     (λ why. refusedWith (Refused why) a)
 

@@ -9,6 +9,7 @@ use geometry::sheet::Sheet;
 use sheet::fields;
 use sheet::opening;
 use sheet::opening::Opened;
+use tags::format::Format;
 use tags::refusal::Answer;
 use tags::refusal::Refusal;
 
@@ -37,6 +38,7 @@ fn commit(sheet: &mut [u8], heap: &mut [u8], records: &mut [u8], g: Sheet)
 
 // Lays an image out, or refuses and leaves every byte as it was.
 pub fn lay_out(
+    f: Format,
     cache: u32,
     heap_base: u32,
     record_base: u32,
@@ -47,9 +49,9 @@ pub fn lay_out(
     records: &mut [u8],
 ) -> Answer
     ensures { λ r. ⌜ result r (after sheet heap records)
-        ≡ layOutOf (before sheet heap records) cache «heap_base» «record_base» size count ⌝ }
+        ≡ layOutOf (before sheet heap records) f cache «heap_base» «record_base» size count ⌝ }
 {
-    let asked = Sheet::laid(cache, heap_base, record_base, size, count);
+    let asked = Sheet::laid(f, cache, heap_base, record_base, size, count);
     let planned = plan(asked, sheet.len(), heap.len(), records.len());
     match planned {
         Opened::Refused(why) => Answer::Refused(why),

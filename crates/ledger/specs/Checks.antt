@@ -1,13 +1,17 @@
--- The worked cases P1 to P12, as one table: buffer size 24. Assumes nothing.
+-- The worked cases P1 to P12, as one table for each order: buffer size 24. The words are the same in both; their bytes, and so the first byte that
+-- differs in P9, are those of the order. Assumes nothing.
 use mathlib.Core.Path.{_≡_}
 use mathlib.Core.Bool.{Bool, true, false}
 use mathlib.Core.List.{List, [], _∷_, _++_}
-use Prim.Native.Nat.{ℕ}
+use Prim.Native.Nat.{ℕ, _+_}
 use lib.Bits.{bitXor}
 use lib.ListN.{replicate, set}
-use Rattle.words.specs.Word.{bytesOf}
+use Rattle.words.specs.declared.word.Order.{Order}
+use Rattle.words.specs.declared.word.Order.the-variants.{HighFirst, LowFirst}
 use Rattle.runs.specs.Run.{repeated}
 use Rattle.words.specs.Age.{ageOf}
+use Rattle.tags.specs.Format.{wordBytes}
+use Rattle.tags.specs.declared.format.Format.{Format}
 use Rattle.tags.specs.Tag.{stateWord}
 use Rattle.chunks.specs.Chunk.{redzone, freeFill, grantFill, guard, chunkOf}
 use Rattle.tags.specs.Verdict.{verdictNumber, verdictValue}
@@ -28,8 +32,8 @@ use Rattle.tags.specs.declared.refusal.Answer.the-variants as answer
 use Rattle.ledger.specs.Ledger.{Call, allocate, resultOf, begun, run}
 
 -- a fresh image of three buffers of 24 bytes
-unfoldable pub freshAreas : Areas
-freshAreas = layOutOf (areas (replicate sheetLength 0) (replicate 120 0) (replicate 288 0)) 0x70039928 0x70a9add8 0x70ae31a0 24 3 .areas
+unfoldable pub freshAreas : Format → Areas
+freshAreas f = layOutOf (areas (replicate sheetLength 0) (replicate 120 0) (replicate 288 0)) f 0x70039928 0x70a9add8 0x70ae31a0 24 3 .areas
 
 -- the number of the refusal of an allocate of the whole buffer, 0 where it is accepted
 abbrev pub refusedAs : Answer → ℕ
@@ -37,8 +41,8 @@ refusedAs (answer.Value a) = 0
 refusedAs (answer.Refused why) = refusalNumber why
 
 -- a log of one row, which names the record at an address
-abbrev pub rowOf : ℕ → ℕ → List ℕ
-rowOf a stamp = bytesOf 4 a ++ bytesOf 4 stamp ++ bytesOf 4 0 ++ bytesOf 4 2
+abbrev pub rowOf : Format → ℕ → ℕ → List ℕ
+rowOf f a stamp = wordBytes f a ++ wordBytes f stamp ++ wordBytes f 0 ++ wordBytes f 2
 
 -- whether it is a row
 abbrev pub isRow : Place → Bool
@@ -46,8 +50,8 @@ isRow (place.At k) = true
 isRow place.Nowhere = false
 
 -- of a record with one stamp and a row that names it with another, the row is the latest
-unfoldable pub rowLatest : ℕ → ℕ → ℕ → Bool
-rowLatest time stamp row = isRow (latestRow (rowOf 0x70ae3200 row) 0x70ae3200 time (firstBest stamp time) 1 .row)
+unfoldable pub rowLatest : Format → ℕ → ℕ → ℕ → Bool
+rowLatest f time stamp row = isRow (latestRow f (rowOf f 0x70ae3200 row) 0x70ae3200 time (firstBest stamp time) 1 .row)
 
 -- P1 to P12: the four kinds of worked case
 pub data Check : Type 0 where
@@ -60,41 +64,56 @@ pub data Check : Type 0 where
   -- calls made in the fresh image, and the number of the refusal of an allocate after them
   next : (calls : List Call) (number : ℕ) → Check
 
--- what a check claims
-abbrev pub ClaimOf : Check → Type 0
-ClaimOf (tagged t0 t1 s) = bitXor t0 t1 ≡ stateWord s
-ClaimOf (examined c a met number value) =
-    (verdictNumber (ownedVerdict c a (standing met false)) ≡ number) × (verdictValue (ownedVerdict c a (standing met false)) ≡ value)
-ClaimOf (aged time first second age₁ age₂) =
-    (ageOf 32 time first ≡ age₁) × (ageOf 32 time second ≡ age₂) × (rowLatest time first second ≡ true) × (rowLatest time second first ≡ false)
-ClaimOf (next calls number) = refusedAs (resultOf (allocate grant.Whole (stampOf 4 7)) (run 24 calls (begun freshAreas) .areas) .answer) ≡ number
+-- what a check claims of images of a format
+abbrev pub ClaimOf : Format → Check → Type 0
+ClaimOf f (tagged t0 t1 s) = bitXor t0 t1 ≡ stateWord s
+ClaimOf f (examined c a met number value) =
+    (verdictNumber (ownedVerdict f c a (standing met false)) ≡ number) × (verdictValue (ownedVerdict f c a (standing met false)) ≡ value)
+ClaimOf f (aged time first second age₁ age₂) =
+    (ageOf 32 time first ≡ age₁) × (ageOf 32 time second ≡ age₂) × (rowLatest f time first second ≡ true) × (rowLatest f time second first ≡ false)
+ClaimOf f (next calls number) =
+    refusedAs (resultOf (allocate grant.Whole (stampOf 4 7)) (run f 24 calls (begun (freshAreas f)) .areas) .answer) ≡ number
 
 -- every check of a list holds
-abbrev pub AllClaims : List Check → Type 0
-AllClaims [] = Unit {0}
-AllClaims (c ∷ cs) = ClaimOf c × AllClaims cs
+abbrev pub AllClaims : Format → List Check → Type 0
+AllClaims f [] = Unit {0}
+AllClaims f (c ∷ cs) = ClaimOf f c × AllClaims f cs
 
 -- a chunk of the free pattern, but for T1
-unfoldable pub freeWith : List ℕ → ℕ → List ℕ
-freeWith buffer t1 = chunkOf buffer redzone redzone 0x70ae3260 t1
+unfoldable pub freeWith : Format → List ℕ → ℕ → List ℕ
+freeWith f buffer t1 = chunkOf f buffer redzone redzone 0x70ae3260 t1
 
 -- a chunk of the allocated pattern
-unfoldable pub allocatedWith : List ℕ → ℕ → ℕ → List ℕ
-allocatedWith buffer r0 r1 = chunkOf buffer r0 r1 0x70ae3200 0xd1befaed
+unfoldable pub allocatedWith : Format → List ℕ → ℕ → ℕ → List ℕ
+allocatedWith f buffer r0 r1 = chunkOf f buffer r0 r1 0x70ae3200 0xd1befaed
+
+-- 24 bytes of a word again and again
+abbrev pub filledWith : Format → ℕ → List ℕ
+filledWith f w = repeated 24 (wordBytes f w)
+
+-- C8 (the word that R0 reads after a full-size grant: the guard is R0's first byte, which is the highest or the lowest)
+abbrev pub guardedZone : Order → ℕ
+guardedZone HighFirst = 0xbbedface
+guardedZone LowFirst = 0xfeedfabb
+
+-- W1 (where the highest byte of a word stands)
+abbrev pub highestAt : Order → ℕ
+highestAt HighFirst = 0
+highestAt LowFirst = 3
 
 -- P1 to P12, in order
-unfoldable pub checks : List Check
-checks =
+unfoldable pub checks : Format → List Check
+checks f =
     tagged 0x70ae3260 0x8440c68e state.Free
     ∷ tagged 0x70ae3200 0xd1befaed state.Allocated
-    ∷ examined (freeWith (repeated 24 freeFill) 0x8440c68f) 0x70ae3260 true 21 0
-    ∷ examined (allocatedWith (set (repeated 24 grantFill) 20 guard) redzone 0x139d) 0x70ae3200 false 2 20
-    ∷ examined (allocatedWith (set (repeated 24 grantFill) 20 guard) redzone 0x139e) 0x70ae3200 false 27 0
-    ∷ examined (allocatedWith (repeated 24 grantFill) redzone 1) 0x70ae3200 false 27 0
-    ∷ examined (allocatedWith (repeated 24 grantFill) 0xbbedface 0x1789) 0x70ae3200 false 2 24
-    ∷ examined (allocatedWith (repeated 24 grantFill) redzone 0x1884) 0x70ae3200 false 27 0
-    ∷ examined (allocatedWith (repeated 24 grantFill) 0x00edface redzone) 0x70ae3200 false 28 24
-    ∷ examined (freeWith (set (repeated 24 freeFill) 9 0) 0x8440c68e) 0x70ae3260 true 25 9
+    ∷ examined (freeWith f (filledWith f freeFill) 0x8440c68f) 0x70ae3260 true 21 0
+    ∷ examined (allocatedWith f (set (filledWith f grantFill) 20 guard) redzone 0x139d) 0x70ae3200 false 2 20
+    ∷ examined (allocatedWith f (set (filledWith f grantFill) 20 guard) redzone 0x139e) 0x70ae3200 false 27 0
+    ∷ examined (allocatedWith f (filledWith f grantFill) redzone 1) 0x70ae3200 false 27 0
+    ∷ examined (allocatedWith f (filledWith f grantFill) (guardedZone (f .order)) 0x1789) 0x70ae3200 false 2 24
+    ∷ examined (allocatedWith f (filledWith f grantFill) redzone 0x1884) 0x70ae3200 false 27 0
+    ∷ examined (allocatedWith f (filledWith f grantFill) 0x00edface redzone) 0x70ae3200 false 28 (24 + highestAt (f .order))
+    ∷ examined (freeWith f (set (filledWith f freeFill) 9 0) 0x8440c68e) 0x70ae3260 true 25 9
     ∷ aged 0x10 0xfffffff0 8 32 8
     ∷ next (allocate grant.Whole (stampOf 1 7) ∷ allocate grant.Whole (stampOf 2 7) ∷ allocate grant.Whole (stampOf 3 7) ∷ []) 5
     ∷ []

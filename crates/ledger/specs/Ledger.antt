@@ -10,8 +10,10 @@ use lib.Seq.{sets}
 use Rattle.words.specs.Word.{part}
 use Rattle.words.specs.Sum.{total}
 use Rattle.runs.specs.Run.{repeated}
+use Rattle.tags.specs.Format.{wordBytes}
 use Rattle.tags.specs.Refusal.{done}
 use Rattle.tags.specs.Verdict.{verdictNumber, isFault, isFoundAllocated}
+use Rattle.tags.specs.declared.format.Format.{Format}
 use Rattle.tags.specs.declared.ending.Ending.the-variants.{End}
 use Rattle.tags.specs.declared.refusal.Refusal.the-variants.{NoRoom, NotAllocated}
 use Rattle.tags.specs.declared.refusal.Answer.{Answer}
@@ -68,9 +70,9 @@ pub record Ledger : Type 0 where
 unfoldable pub put : ℕ → Option Entry → (ℕ → Option Entry) → ℕ → Option Entry
 put a o f x = cond (eqb x a) o (f x)
 
--- B2 (the grant asked for, and its client bytes: ba dd ca fe repeated)
-abbrev pub fresh : ℕ → Grant → Entry
-fresh size q = record { grant = q; client = repeated (grantSize size q) grantFill }
+-- B2 (the grant asked for, and its client bytes: the word 0xbaddcafe repeated)
+abbrev pub fresh : Format → ℕ → Grant → Entry
+fresh f size q = record { grant = q; client = repeated (grantSize size q) (wordBytes f grantFill) }
 
 -- B3 (bytes over the client bytes, from the offset on)
 abbrev pub overwritten : ℕ → List ℕ → Option Entry → Option Entry
@@ -78,9 +80,9 @@ overwritten offset bytes none = none
 overwritten offset bytes (some o) = some (record { grant = o .grant; client = sets (o .client) offset bytes })
 
 -- B2 (an accepted allocate), B5 (a refused call)
-abbrev pub afterAllocate : ℕ → Grant → Answer → Ledger → Ledger
-afterAllocate size q (answer.Value a) l = record { out = put a (some (fresh size q)) (l .out); allocations = suc (l .allocations); frees = l .frees }
-afterAllocate size q (answer.Refused why) l = l
+abbrev pub afterAllocate : Format → ℕ → Grant → Answer → Ledger → Ledger
+afterAllocate f size q (answer.Value a) l = record { out = put a (some (fresh f size q)) (l .out); allocations = suc (l .allocations); frees = l .frees }
+afterAllocate f size q (answer.Refused why) l = l
 
 -- B4 (an accepted free), B5
 abbrev pub afterFree : ℕ → Answer → Ledger → Ledger
@@ -96,11 +98,11 @@ afterStore address offset bytes (answer.Value v) l = record {
 }
 afterStore address offset bytes (answer.Refused why) l = l
 
--- B2 to B5, from what a call is given and what it answers alone; `size` is that of the buffers, an argument of lay out
-abbrev pub afterCall : ℕ → Call → Answer → Ledger → Ledger
-afterCall size (allocate q s) answer l = afterAllocate size q answer l
-afterCall size (free address q s) answer l = afterFree address answer l
-afterCall size (store address offset bytes) answer l = afterStore address offset bytes answer l
+-- B2 to B5, from what a call is given and what it answers alone; the format and the size of the buffers are arguments of lay out
+abbrev pub afterCall : Format → ℕ → Call → Answer → Ledger → Ledger
+afterCall f size (allocate q s) answer l = afterAllocate f size q answer l
+afterCall f size (free address q s) answer l = afterFree address answer l
+afterCall f size (store address offset bytes) answer l = afterStore address offset bytes answer l
 
 -- ---- a run
 
@@ -114,16 +116,16 @@ abbrev pub begun : Areas → RunState
 begun a = record { areas = a; ledger = record { out = λ x. none; allocations = 0; frees = 0 } }
 
 -- one call: it gets the areas as they are, and its answer goes into the ledger
-abbrev pub step : ℕ → Call → RunState → RunState
-step size call w = record {
+abbrev pub step : Format → ℕ → Call → RunState → RunState
+step f size call w = record {
   areas = resultOf call (w .areas) .areas;
-  ledger = afterCall size call (resultOf call (w .areas) .answer) (w .ledger);
+  ledger = afterCall f size call (resultOf call (w .areas) .answer) (w .ledger);
 }
 
 -- a list of calls, which may be empty: each gets the areas as the one before left them
-unfoldable pub run : ℕ → List Call → RunState → RunState
-run size [] w = w
-run size (call ∷ calls) w = run size calls (step size call w)
+unfoldable pub run : Format → ℕ → List Call → RunState → RunState
+run f size [] w = w
+run f size (call ∷ calls) w = run f size calls (step f size call w)
 
 -- ---- what holds after every run
 
@@ -197,8 +199,8 @@ pub record Sound (laid : Sheet) (w : RunState) : Type 0 where
       × ((i < laid .count)
       × ((w .ledger .out (bufferAddress laid i) ≡ none) × (allocateOf (w .areas) q s .answer ≡ answer.Value (bufferAddress laid i))))
 
--- B6 to B12, one claim about the whole list: after an accepted lay out, whose cache address is a word, and any calls
+-- B6 to B12, one claim about the whole list: after an accepted lay out, in either order, whose cache address is a word, and any calls
 abbrev pub Claim : Type 0
-Claim = (a : Areas) (cache heap records size n : ℕ) → cache < 4294967296 → layOutOf a cache heap records size n .answer ≡ done
+Claim = (a : Areas) (f : Format) (cache heap records size n : ℕ) → cache < 4294967296 → layOutOf a f cache heap records size n .answer ≡ done
     → (calls : List Call)
-    → Sound (laidSheet cache heap records size n) (run size calls (begun (layOutOf a cache heap records size n .areas)))
+    → Sound (laidSheet f cache heap records size n) (run f size calls (begun (layOutOf a f cache heap records size n .areas)))

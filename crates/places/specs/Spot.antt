@@ -1,7 +1,6 @@
 -- A buffer of a sheet, and its own record. Assumes nothing.
-use mathlib.Core.Path.{_≡_}
-use Prim.Native.Nat.{ℕ, _<_}
-use Rattle.sheet.specs.Fields.{sheetLength}
+use Prim.Native.Nat.{ℕ, _≤_, _<_}
+use Rattle.sheet.specs.Fields.{shortLength}
 use Rattle.geometry.specs.Sheet.{chunkPlace, bufferAddress, recordAddress}
 use Rattle.sheet.specs.Opening.{Open}
 use Rattle.geometry.specs.declared.sheet.Sheet.{Sheet}
@@ -25,7 +24,7 @@ recordStart p = recordAddress (p .sheet) (p .own)
 
 -- what a plan promises to who carries it out: all that is written for a buffer and its record lies in the areas, of s, h and r bytes
 pub record Within (s h r : ℕ) (p : Spot) : Type 0 where
-  pub long : s ≡ sheetLength
+  pub long : shortLength ≤ s
   pub opened : Open h r (p .sheet)
   pub buffer : p .buffer < p .sheet .count
   pub own : p .own < p .sheet .count

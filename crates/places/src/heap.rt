@@ -30,11 +30,12 @@ pub fn write_free(heap: &mut [u8], g: Sheet, i: usize, record_at: u32)
     requires { ⌜ length (now heap) ≡ heapLength g ⌝ }
     requires { ⌜ i < g .count ⌝ }
     ensures { λ _. ⌜ now (heap .exit)
-        ≡ sets (now (heap .entry)) (chunkPlace g i) (freeChunk (g .size) «record_at») ⌝ }
+        ≡ sets (now (heap .entry)) (chunkPlace g i) (freeChunk (g .format) (g .size) «record_at») ⌝ }
 {
     let at = g.chunk_place(i);
     let end = at + g.chunk;
-    chunk::write_free(&mut heap[at..end], record_at);
+    let f = g.format;
+    chunk::write_free(f, &mut heap[at..end], record_at);
 }
 
 // Writes the chunk of buffer i as a granted one, whose record is at an address.
@@ -44,9 +45,10 @@ pub fn write_granted(heap: &mut [u8], g: Sheet, i: usize, record_at: u32, grant:
     requires { ⌜ i < g .count ⌝ }
     requires { ⌜ lawfulSize (g .size) grant ≡ true ⌝ }
     ensures { λ _. ⌜ now (heap .exit)
-        ≡ sets (now (heap .entry)) (chunkPlace g i) (grantedChunk (g .size) «record_at» grant) ⌝ }
+        ≡ sets (now (heap .entry)) (chunkPlace g i) (grantedChunk (g .format) (g .size) «record_at» grant) ⌝ }
 {
     let at = g.chunk_place(i);
     let end = at + g.chunk;
-    chunk::write_granted(&mut heap[at..end], record_at, grant);
+    let f = g.format;
+    chunk::write_granted(f, &mut heap[at..end], record_at, grant);
 }

@@ -1,21 +1,24 @@
 -- The format of the sheet: one table of fields, by which it is tested, read and written. Assumes nothing.
-use mathlib.Core.Bool.{Bool, true, _&&_}
+use mathlib.Core.Bool.{Bool, true, _&&_, _||_, cond}
 use mathlib.Core.List.{List, [], _∷_, _++_}
 use Prim.Native.Nat.{ℕ, zero, suc, _+_}
-use lib.Dec.{eqb}
+use lib.Dec.{eqb, leb, ltb}
 use lib.ListN.{length}
 use lib.Seq.{sets}
 use Rattle.words.specs.Word.{numberAt, bytesOf}
+use Rattle.words.specs.declared.word.Order.{Order}
+use Rattle.words.specs.declared.word.Order.the-variants.{HighFirst, LowFirst}
+use Rattle.tags.specs.Format.{formatOf}
 use Rattle.geometry.specs.declared.sheet.Sheet.{Sheet}
 
 -- ---- the numbers and the bytes of a field
 
--- W1 (the highest byte first): the number of k bytes of a sheet, and its bytes
+-- W1 (the numbers of a sheet have the highest byte first): the number of k bytes of a sheet, and its bytes
 abbrev pub fieldNumber : ℕ → List ℕ → ℕ → ℕ
-fieldNumber k s at = numberAt k s at
+fieldNumber k s at = numberAt HighFirst k s at
 
 abbrev pub fieldBytes : ℕ → ℕ → List ℕ
-fieldBytes k v = bytesOf k v
+fieldBytes k v = bytesOf HighFirst k v
 
 -- ---- the table
 
@@ -24,9 +27,9 @@ pub record Field : Type 0 where
   pub tag : ℕ
   pub len : ℕ
 
--- S2 (tags 1 to 8, in order, and their lengths)
-abbrev pub fields : List Field
-fields =
+-- S2 (tags 1 to 8, in order, and their lengths): the fields of a sheet of the short form
+abbrev pub shortFields : List Field
+shortFields =
     record { tag = 1; len = 4 }
     ∷ record { tag = 2; len = 4 }
     ∷ record { tag = 3; len = 4 }
@@ -36,6 +39,10 @@ fields =
     ∷ record { tag = 7; len = 4 }
     ∷ record { tag = 8; len = 2 }
     ∷ []
+
+-- S10 (tag 9, behind the others): the fields of a sheet of the long form
+abbrev pub fields : List Field
+fields = shortFields ++ (record { tag = 9; len = 1 } ∷ [])
 
 -- S1 (tag, 1 byte; length, 2 bytes; body): how long a field is
 abbrev pub fieldLength : Field → ℕ
@@ -47,9 +54,12 @@ lengthTo zero fs = 0
 lengthTo (suc k) [] = 0
 lengthTo (suc k) (f ∷ fs) = fieldLength f + lengthTo k fs
 
--- S1 (exactly 48 bytes)
+-- S1 (the short form has 48 bytes), S10 (the long form has 52)
+abbrev pub shortLength : ℕ
+shortLength = lengthTo 8 fields
+
 abbrev pub sheetLength : ℕ
-sheetLength = lengthTo 8 fields
+sheetLength = lengthTo 9 fields
 
 -- S2 (where the body stands), for the field behind k others
 abbrev pub bodyAt : ℕ → ℕ
@@ -66,15 +76,38 @@ abbrev pub fieldsFrom : List Field → ℕ → List ℕ → Bool
 fieldsFrom [] at s = true
 fieldsFrom (f ∷ fs) at s = fieldIs s at (f .tag) (f .len) && fieldsFrom fs (at + fieldLength f) s
 
--- S1 (exactly 48 bytes), S2 (the fields): where this fails, X1
+-- S1, S2 (the short form: its length and its fields), S10 (the long form)
+unfoldable pub isShort : List ℕ → Bool
+isShort s = eqb (length s) shortLength && fieldsFrom shortFields 0 s
+
+unfoldable pub isLong : List ℕ → Bool
+isLong s = eqb (length s) sheetLength && fieldsFrom fields 0 s
+
+-- S10 (neither form): where this fails, X1
 unfoldable pub shaped : List ℕ → Bool
-shaped s = eqb (length s) sheetLength && fieldsFrom fields 0 s
+shaped s = isShort s || isLong s
 
 -- ---- the numbers
 
--- S2 (the bodies)
+-- S10 (the number of the order): the body of tag 9; a sheet without it means 0
+unfoldable pub orderNumber : List ℕ → ℕ
+orderNumber s = cond (ltb (length s) sheetLength) 0 (fieldNumber 1 s (bodyAt 8))
+
+-- S10 (0 is the high byte first, 1 the low byte first): any other number has no order, X2
+abbrev pub orderLawful : ℕ → Bool
+orderLawful v = leb v 1
+
+abbrev pub orderOf : ℕ → Order
+orderOf v = cond (eqb v 0) HighFirst LowFirst
+
+abbrev pub numberOf : Order → ℕ
+numberOf HighFirst = 0
+numberOf LowFirst = 1
+
+-- S2, S10 (the bodies)
 unfoldable pub sheetOf : List ℕ → Sheet
 sheetOf s = record {
+  format = formatOf (orderOf (orderNumber s));
   cache = fieldNumber 4 s (bodyAt 0);
   «heap_base» = fieldNumber 4 s (bodyAt 1);
   «record_base» = fieldNumber 4 s (bodyAt 2);
@@ -99,9 +132,10 @@ fieldsBytes (f ∷ fs) (b ∷ bodies) = field (f .tag) (f .len) b ++ fieldsBytes
 
 -- S2 (the bodies, in order)
 abbrev pub bodiesOf : Sheet → List ℕ
-bodiesOf g = g .cache ∷ g .«heap_base» ∷ g .«record_base» ∷ g .size ∷ g .chunk ∷ g .count ∷ g .head ∷ g .flags ∷ []
+bodiesOf g =
+    g .cache ∷ g .«heap_base» ∷ g .«record_base» ∷ g .size ∷ g .chunk ∷ g .count ∷ g .head ∷ g .flags ∷ numberOf (g .format .order) ∷ []
 
--- S1, S2 (the bytes of a sheet)
+-- S1, S2, S10 (the bytes of a sheet, which is written in the long form)
 unfoldable pub sheetBytes : Sheet → List ℕ
 sheetBytes g = fieldsBytes fields (bodiesOf g)
 

@@ -8,7 +8,7 @@ use Rattle.log.specs.Log.{logRight}
 use Rattle.tags.specs.declared.refusal.Refusal.{Refusal}
 use Rattle.tags.specs.declared.refusal.Refusal.the-variants.{BadSheet, BadNumber, BadLength}
 use Rattle.geometry.specs.Sheet.{heapLength, recordsLength}
-use Rattle.sheet.specs.Fields.{shaped, sheetOf}
+use Rattle.sheet.specs.Fields.{shaped, orderNumber, orderLawful, sheetOf}
 use Rattle.geometry.specs.Limits.{lawful, Lawful}
 use Rattle.geometry.specs.declared.sheet.Sheet.{Sheet}
 use Rattle.sheet.specs.declared.opening.Lengths.{Lengths}
@@ -29,8 +29,12 @@ measured g h r = cond (lengthsRight g h r) (opened.Sheet g) (opened.Refused BadL
 unfoldable pub numbered : Sheet → ℕ → ℕ → Opened
 numbered g h r = cond (lawful g) (measured g h r) (opened.Refused BadNumber)
 
+-- X2 (S10: a number without an order)
+unfoldable pub ordered : List ℕ → ℕ → ℕ → Opened
+ordered s h r = cond (orderLawful (orderNumber s)) (numbered (sheetOf s) h r) (opened.Refused BadNumber)
+
 unfoldable pub openedOf : List ℕ → ℕ → ℕ → Opened
-openedOf s h r = cond (shaped s) (numbered (sheetOf s) h r) (opened.Refused BadSheet)
+openedOf s h r = cond (shaped s) (ordered s h r) (opened.Refused BadSheet)
 
 -- by whether an image is open
 abbrev pub byOpened {ℓ} : {A : Type ℓ} → Opened → (Sheet → A) → (Refusal → A) → A
@@ -54,4 +58,4 @@ areasOf g = cond (lawful g) (lengths.Areas (heapLength g) (recordsLength g)) (le
 
 -- K13 (area lengths): X1 and X2, and then the lengths that X3 asks for
 unfoldable pub lengthsOf : List ℕ → Lengths
-lengthsOf s = cond (shaped s) (areasOf (sheetOf s)) (lengths.Refused BadSheet)
+lengthsOf s = cond (shaped s) (cond (orderLawful (orderNumber s)) (areasOf (sheetOf s)) (lengths.Refused BadNumber)) (lengths.Refused BadSheet)

@@ -1,13 +1,16 @@
-// The bytes of a sheet: eight tagged fields, one after the other. Where each stands follows from the lengths of those before it.
+// The bytes of a sheet: tagged fields, one after the other, eight in the short form and in the long form one more, the order. Where each
+// stands follows from the lengths of those before it. The numbers of a sheet have the highest byte first, whatever the order of its image.
 ghost use mathlib.Core.Path.{_≡_};
 ghost use mathlib.Core.List.{_++_};
 ghost use Prim.Native.Nat.{_+_, _≤_};
 ghost use lib.ListN.{length};
 ghost use lib.Seq.{sets};
-ghost use Rattle.sheet.specs.Fields.{fieldNumber, fieldIs, shaped, sheetOf, field, sheetBytes, sheetLength, withHead};
+ghost use Rattle.sheet.specs.Fields.{fieldNumber, fieldIs, fieldsFrom, shortFields, fields, shaped, orderNumber, orderOf, numberOf, sheetOf, field, sheetBytes, shortLength, sheetLength, withHead};
 ghost use Rattle.geometry.specs.Limits.{Lawful};
 use geometry::sheet::Sheet;
+use tags::format::Format;
 use words::word;
+use words::word::Order;
 
 // What a field has before its body, and with a body of four bytes, of two.
 const BEFORE: usize = 3;
@@ -33,7 +36,12 @@ const HEAD: usize = COUNT + SHORT;
 
 const FLAGS: usize = HEAD + LONG;
 
-pub const LENGTH: usize = FLAGS + SHORT;
+const ORDER: usize = FLAGS + SHORT;
+
+// How long a sheet is, of the short form and of the long one.
+const SHORT_FORM: usize = ORDER;
+
+pub const LENGTH: usize = ORDER + BEFORE + 1;
 
 // Whether the field at an offset has a tag and a length.
 fn field_is(s: &[u8], at: usize, tag: u8, len: u16) -> bool
@@ -46,13 +54,11 @@ fn field_is(s: &[u8], at: usize, tag: u8, len: u16) -> bool
     word::read_u16(s, at + 1) == len
 }
 
-// Whether the sheet has its length and the stated tags and lengths.
-pub(crate) fn is_shaped(s: &[u8]) -> bool
-    ensures { λ r. ⌜ r ≡ shaped (now (s .entry)) ⌝ }
+// Whether the first eight fields have the stated tags and lengths.
+fn has_eight(s: &[u8]) -> bool
+    requires { ⌜ shortLength ≤ length (now s) ⌝ }
+    ensures { λ r. ⌜ r ≡ fieldsFrom shortFields 0 (now (s .entry)) ⌝ }
 {
-    if s.len() != LENGTH {
-        return false;
-    }
     field_is(s, CACHE, 1, 4)
         & field_is(s, HEAP_BASE, 2, 4)
         & field_is(s, RECORD_BASE, 3, 4)
@@ -61,6 +67,27 @@ pub(crate) fn is_shaped(s: &[u8]) -> bool
         & field_is(s, COUNT, 6, 2)
         & field_is(s, HEAD, 7, 4)
         & field_is(s, FLAGS, 8, 2)
+}
+
+// Whether a sheet of the long form's length has its nine fields.
+fn has_nine(s: &[u8]) -> bool
+    requires { ⌜ sheetLength ≤ length (now s) ⌝ }
+    ensures { λ r. ⌜ r ≡ fieldsFrom fields 0 (now (s .entry)) ⌝ }
+{
+    has_eight(s) & field_is(s, ORDER, 9, 1)
+}
+
+// Whether the sheet has the length of one of the two forms, and its stated tags and lengths.
+pub(crate) fn is_shaped(s: &[u8]) -> bool
+    ensures { λ r. ⌜ r ≡ shaped (now (s .entry)) ⌝ }
+{
+    if s.len() == SHORT_FORM {
+        return has_eight(s);
+    }
+    if s.len() == LENGTH {
+        return has_nine(s);
+    }
+    false
 }
 
 // The body, of two bytes, of the field at an offset.
@@ -76,15 +103,46 @@ fn long_body(s: &[u8], at: usize) -> u32
     requires { ⌜ at + 7 ≤ length (now s) ⌝ }
     ensures { λ r. ⌜ r ≡ fieldNumber 4 (now (s .entry)) (at + 3) ⌝ }
 {
-    word::read_u32(s, at + BEFORE)
+    word::read_u32(Order::HighFirst, s, at + BEFORE)
+}
+
+// The number of the order, 0 where the sheet has no such field.
+pub(crate) fn order_number(s: &[u8]) -> u8
+    ensures { λ r. ⌜ r ≡ orderNumber (now (s .entry)) ⌝ }
+{
+    if s.len() < LENGTH {
+        return 0;
+    }
+    word::read_u8(s, ORDER + BEFORE)
+}
+
+// The order that a number stands for, and the number of an order.
+fn order_of(v: u8) -> Order
+    ensures { λ r. ⌜ r ≡ orderOf v ⌝ }
+{
+    if v == 0 {
+        return Order::HighFirst;
+    }
+    Order::LowFirst
+}
+
+fn number_of(o: Order) -> u8
+    ensures { λ r. ⌜ r ≡ numberOf o ⌝ }
+{
+    match o {
+        Order::HighFirst => 0,
+        Order::LowFirst => 1,
+    }
 }
 
 // The numbers in the fields' bodies.
 pub(crate) fn read(s: &[u8]) -> Sheet
-    requires { ⌜ length (now s) ≡ sheetLength ⌝ }
+    requires { ⌜ shortLength ≤ length (now s) ⌝ }
     ensures { λ r. ⌜ r ≡ sheetOf (now (s .entry)) ⌝ }
 {
+    let order = order_of(order_number(s));
     Sheet {
+        format: Format { order },
         cache: long_body(s, CACHE),
         heap_base: long_body(s, HEAP_BASE),
         record_base: long_body(s, RECORD_BASE),
@@ -94,6 +152,16 @@ pub(crate) fn read(s: &[u8]) -> Sheet
         head: long_body(s, HEAD),
         flags: short_body(s, FLAGS) as u32,
     }
+}
+
+// Writes a field whose body is one byte.
+fn write_byte(s: &mut [u8], at: usize, tag: u8, body: u8)
+    requires { ⌜ at + 4 ≤ length (now s) ⌝ }
+    ensures { λ _. ⌜ now (s .exit) ≡ sets (now (s .entry)) at (field tag 1 body) ⌝ }
+{
+    word::write_u8(s, at, tag);
+    word::write_u16(s, at + 1, 1);
+    word::write_u8(s, at + 3, body);
 }
 
 // Writes a field whose body is a number of two bytes.
@@ -113,7 +181,7 @@ fn write_long(s: &mut [u8], at: usize, tag: u8, body: u32)
 {
     word::write_u8(s, at, tag);
     word::write_u16(s, at + 1, 4);
-    word::write_u32(s, at + 3, body);
+    word::write_u32(Order::HighFirst, s, at + 3, body);
 }
 
 // Writes the first three fields, the addresses.
@@ -139,7 +207,21 @@ fn write_sizes(s: &mut [u8], g: Sheet)
     write_short(s, COUNT, 6, g.count as u16);
 }
 
-// Writes the whole sheet: the addresses, the sizes, the chain head and the flags.
+// Writes the last three, the chain head, the flags and the order.
+fn write_state(s: &mut [u8], g: Sheet)
+    requires { ⌜ length (now s) ≡ sheetLength ⌝ }
+    requires { ⌜ Lawful g ⌝ }
+    ensures { λ _. ⌜ now (s .exit) ≡ sets (now (s .entry)) 36
+        (field 7 4 (g .head) ++ field 8 2 (g .flags) ++ field 9 1 (numberOf (g .format .order))) ⌝ }
+{
+    let f = g.format;
+    let o = f.order;
+    write_long(s, HEAD, 7, g.head);
+    write_short(s, FLAGS, 8, g.flags as u16);
+    write_byte(s, ORDER, 9, number_of(o));
+}
+
+// Writes the whole sheet, in the long form.
 pub fn write(s: &mut [u8], g: Sheet)
     requires { ⌜ length (now s) ≡ sheetLength ⌝ }
     requires { ⌜ Lawful g ⌝ }
@@ -147,14 +229,13 @@ pub fn write(s: &mut [u8], g: Sheet)
 {
     write_addresses(s, g);
     write_sizes(s, g);
-    write_long(s, HEAD, 7, g.head);
-    write_short(s, FLAGS, 8, g.flags as u16);
+    write_state(s, g);
 }
 
-// Writes the chain head of a sheet.
+// Writes the chain head of a sheet, of either form.
 pub fn set_head(s: &mut [u8], head: u32)
-    requires { ⌜ length (now s) ≡ sheetLength ⌝ }
+    requires { ⌜ shortLength ≤ length (now s) ⌝ }
     ensures { λ _. ⌜ now (s .exit) ≡ withHead (now (s .entry)) head ⌝ }
 {
-    word::write_u32(s, HEAD + BEFORE, head);
+    word::write_u32(Order::HighFirst, s, HEAD + BEFORE, head);
 }

@@ -1,7 +1,10 @@
 // The opening of an image: every call begins with the tests 1, 2 and 3.
 ghost use mathlib.Core.Path.{_≡_};
+ghost use Prim.Native.Nat.{_≤_};
+ghost use lib.ListN.{length};
 ghost use Rattle.geometry.specs.Limits.{Lawful};
-ghost use Rattle.sheet.specs.Opening.{measured, numbered, openedOf, openedWithLog, areasOf, lengthsOf};
+ghost use Rattle.sheet.specs.Fields.{shortLength};
+ghost use Rattle.sheet.specs.Opening.{measured, numbered, ordered, openedOf, openedWithLog, areasOf, lengthsOf};
 use crate::fields;
 use geometry::sheet::Sheet;
 use tags::refusal::Refusal;
@@ -42,12 +45,23 @@ pub fn judge_numbers(g: Sheet, heap_len: usize, records_len: usize) -> Opened
     Opened::Refused(Refusal::BadNumber)
 }
 
+// The step before that: the number of the order, of a sheet of either form.
+fn judge_order(sheet: &[u8], heap_len: usize, records_len: usize) -> Opened
+    requires { ⌜ shortLength ≤ length (now sheet) ⌝ }
+    ensures { λ r. ⌜ r ≡ ordered (now (sheet .entry)) «heap_len» «records_len» ⌝ }
+{
+    if fields::order_number(sheet) <= 1 {
+        return judge_numbers(fields::read(sheet), heap_len, records_len);
+    }
+    Opened::Refused(Refusal::BadNumber)
+}
+
 // Opens an image whose areas have these lengths.
 pub fn open(sheet: &[u8], heap_len: usize, records_len: usize) -> Opened
     ensures { λ r. ⌜ r ≡ openedOf (now (sheet .entry)) «heap_len» «records_len» ⌝ }
 {
     if fields::is_shaped(sheet) {
-        return judge_numbers(fields::read(sheet), heap_len, records_len);
+        return judge_order(sheet, heap_len, records_len);
     }
     Opened::Refused(Refusal::BadSheet)
 }
@@ -83,7 +97,10 @@ pub fn area_lengths(sheet: &[u8]) -> Lengths
     ensures { λ r. ⌜ r ≡ lengthsOf (now (sheet .entry)) ⌝ }
 {
     if fields::is_shaped(sheet) {
-        return measure_areas(fields::read(sheet));
+        if fields::order_number(sheet) <= 1 {
+            return measure_areas(fields::read(sheet));
+        }
+        return Lengths::Refused(Refusal::BadNumber);
     }
     Lengths::Refused(Refusal::BadSheet)
 }

@@ -8,8 +8,9 @@ use lib.Dec.{eqb, leb, ltb}
 use lib.ListN.{length}
 use Rattle.words.specs.Word.{part}
 use Rattle.words.specs.Age.{ageOf}
+use Rattle.tags.specs.declared.format.Format.{Format}
 use Rattle.tags.specs.declared.verdict.Verdict.the-variants.{NotOneRecord}
-use Rattle.area.specs.Record.{recordSize, stampHigh, stampLow}
+use Rattle.area.specs.Record.{recordSize, stampNumber, highHalf, lowHalf}
 use Rattle.log.specs.Log.{rowSize, rowsOf, rowRecord, rowUptime}
 use Rattle.chain.specs.Pairing.{ownIn, byOwn}
 use Rattle.sheet.specs.Areas.{Areas, PartAt, openingWithLog, byImage}
@@ -23,25 +24,25 @@ use Rattle.transactions.specs.declared.latest.Transaction.{Transaction}
 use Rattle.transactions.specs.declared.latest.Transaction.the-variants.{Row, Record, Refused}
 
 -- A5, L1 (the row names the record): row k of the log, the record at the address a
-abbrev pub rowNames : List ℕ → ℕ → ℕ → Bool
-rowNames log a k = eqb (rowRecord log k) a
+abbrev pub rowNames : Format → List ℕ → ℕ → ℕ → Bool
+rowNames f log a k = eqb (rowRecord f log k) a
 
 -- L2 (the age of row k)
-abbrev pub rowAge : List ℕ → ℕ → ℕ → ℕ
-rowAge log time k = ageOf 32 time (rowUptime log k)
+abbrev pub rowAge : Format → List ℕ → ℕ → ℕ → ℕ
+rowAge f log time k = ageOf 32 time (rowUptime f log k)
 
 -- L3 (of equal ages, the later row): row k names the record and is not older than an age
-abbrev pub rowLater : List ℕ → ℕ → ℕ → ℕ → ℕ → Bool
-rowLater log a time k least = rowNames log a k && leb (rowAge log time k) least
+abbrev pub rowLater : Format → List ℕ → ℕ → ℕ → ℕ → ℕ → Bool
+rowLater f log a time k least = rowNames f log a k && leb (rowAge f log time k) least
 
 -- L3: such a row takes the place of what was latest before it
-unfoldable pub considered : List ℕ → ℕ → ℕ → ℕ → Best → Best
-considered log a time k b = cond (rowLater log a time k (b .age)) (record { row = place.At k; age = rowAge log time k }) b
+unfoldable pub considered : Format → List ℕ → ℕ → ℕ → ℕ → Best → Best
+considered f log a time k b = cond (rowLater f log a time k (b .age)) (record { row = place.At k; age = rowAge f log time k }) b
 
 -- L3 (the smallest age): the latest of what was latest before and the first n rows, one after the other
-unfoldable pub latestRow : List ℕ → ℕ → ℕ → Best → ℕ → Best
-latestRow log a time b zero = b
-latestRow log a time b (suc k) = considered log a time k (latestRow log a time b k)
+unfoldable pub latestRow : Format → List ℕ → ℕ → ℕ → Best → ℕ → Best
+latestRow f log a time b zero = b
+latestRow f log a time b (suc k) = considered f log a time k (latestRow f log a time b k)
 
 -- L2, L3 (of equal ages, a row before the record): before any row it is the record, by the low half of its stamp
 abbrev pub firstBest : ℕ → ℕ → Best
@@ -59,8 +60,9 @@ rowOrRecord place.Nowhere j = Record j
 -- X12 (the high half of the stamp is not 0), for the buffer whose own record is j
 unfoldable pub ownedLatest : Sheet → List ℕ → List ℕ → ℕ → ℕ → Transaction
 ownedLatest g records log time j =
-    cond (eqb (stampHigh records j) 0)
-    (rowOrRecord (latestRow log (recordAddress g j) time (firstBest (stampLow records j) time) (rowsOf (length log)) .row) j)
+    cond (eqb (highHalf (stampNumber (g .format) records j)) 0)
+    (rowOrRecord
+    (latestRow (g .format) log (recordAddress g j) time (firstBest (lowHalf (stampNumber (g .format) records j)) time) (rowsOf (length log)) .row) j)
     (Refused WideStamp)
 
 -- X4 (index not below n), E7 (X7 with 20)
@@ -89,13 +91,14 @@ LatestPlace records log (Refused why) p = Unit {0}
 
 -- a row that is chosen names the record, has that age, and is younger than each later row that names it; where no row is, the record has that age, and each
 -- row that names it is older
-abbrev pub ChosenAt : List ℕ → ℕ → ℕ → ℕ → ℕ → Place → ℕ → Type 0
-ChosenAt log a time stamp n (place.At k) age =
-    (k < n) × (rowNames log a k ≡ true) × (age ≡ rowAge log time k) × ((j : ℕ) → k < j → j < n → rowNames log a j ≡ true → age < rowAge log time j)
-ChosenAt log a time stamp n place.Nowhere age = (age ≡ ageOf 32 time stamp) × ((j : ℕ) → j < n → rowNames log a j ≡ true → age < rowAge log time j)
+abbrev pub ChosenAt : Format → List ℕ → ℕ → ℕ → ℕ → ℕ → Place → ℕ → Type 0
+ChosenAt f log a time stamp n (place.At k) age =
+    (k < n) × (rowNames f log a k ≡ true) × (age ≡ rowAge f log time k) × ((j : ℕ) → k < j → j < n → rowNames f log a j ≡ true → age < rowAge f log time j)
+ChosenAt f log a time stamp n place.Nowhere age =
+    (age ≡ ageOf 32 time stamp) × ((j : ℕ) → j < n → rowNames f log a j ≡ true → age < rowAge f log time j)
 
 -- L3 (the smallest age), of the first n rows
-pub record Smallest (log : List ℕ) (a time stamp n : ℕ) (b : Best) : Type 0 where
+pub record Smallest (f : Format) (log : List ℕ) (a time stamp n : ℕ) (b : Best) : Type 0 where
   pub record-older : b .age ≤ ageOf 32 time stamp
-  pub rows-older : (j : ℕ) → j < n → rowNames log a j ≡ true → b .age ≤ rowAge log time j
-  pub chosen : ChosenAt log a time stamp n (b .row) (b .age)
+  pub rows-older : (j : ℕ) → j < n → rowNames f log a j ≡ true → b .age ≤ rowAge f log time j
+  pub chosen : ChosenAt f log a time stamp n (b .row) (b .age)

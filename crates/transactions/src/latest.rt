@@ -16,9 +16,13 @@ use geometry::sheet::Sheet;
 use places::records;
 use sheet::opening;
 use sheet::opening::Opened;
+use tags::format::Format;
 use tags::refusal::Refusal;
 use tags::verdict::Verdict;
 use words::age;
+
+// How many values a word has: a stamp is two words, its high half and its low half.
+const WORD_VALUES: u64 = 4294967296;
 
 // What is latest so far: a row, or no row and so the record; and its age.
 pub struct Best {
@@ -34,14 +38,14 @@ pub enum Transaction {
 }
 
 // Whether row k of the log is of the record at an address and no older than `least`.
-fn is_later(log: &[u8], k: usize, record_at: u32, time: u32, least: u32) -> bool
+fn is_later(f: Format, log: &[u8], k: usize, record_at: u32, time: u32, least: u32) -> bool
     requires { ⌜ k * rowSize + rowSize ≤ length (now log) ⌝ }
-    ensures { λ r. ⌜ r ≡ rowLater (now (log .entry)) «record_at» time k least ⌝ }
+    ensures { λ r. ⌜ r ≡ rowLater f (now (log .entry)) «record_at» time k least ⌝ }
 {
-    if log::row_record(log, k) != record_at {
+    if log::row_record(f, log, k) != record_at {
         return false;
     }
-    age::age(time, log::row_uptime(log, k)) <= least
+    age::age(time, log::row_uptime(f, log, k)) <= least
 }
 
 // What is latest, of the number of its row among n, which is n where no row was found, and of its age.
@@ -62,17 +66,17 @@ fn best_of(found: usize, n: usize, age: u32) -> Best
 
 // What is latest of the record at an address, whose own stamp is given, and of the first n rows of the log. The loop keeps the row as
 // a number, n where there is none: a loop over numbers alone is compiled to one loop, and one over a Best was compiled to two.
-fn latest_row(log: &[u8], n: usize, record_at: u32, stamp: u32, time: u32) -> Best
+fn latest_row(f: Format, log: &[u8], n: usize, record_at: u32, stamp: u32, time: u32) -> Best
     requires { ⌜ n * rowSize ≤ length (now log) ⌝ }
-    ensures { λ r. ⌜ r ≡ latestRow (now (log .entry)) «record_at» time (firstBest stamp time) n ⌝ }
+    ensures { λ r. ⌜ r ≡ latestRow f (now (log .entry)) «record_at» time (firstBest stamp time) n ⌝ }
 {
     let mut found = n;
     let mut least = age::age(time, stamp);
     let mut k = 0;
     while k < n {
-        if is_later(log, k, record_at, time, least) {
+        if is_later(f, log, k, record_at, time, least) {
             found = k;
-            least = age::age(time, log::row_uptime(log, k));
+            least = age::age(time, log::row_uptime(f, log, k));
         }
         k += 1;
     }
@@ -87,11 +91,13 @@ fn latest_owned(records: &[u8], log: &[u8], g: Sheet, j: usize, time: u32) -> Tr
     requires { ⌜ length (now log) ≤ logMost ⌝ }
     ensures { λ r. ⌜ r ≡ ownedLatest g (now (records .entry)) (now (log .entry)) time j ⌝ }
 {
-    if records::stamp_high(records, g, j) != 0 {
+    let stamp = records::stamp(records, g, j);
+    if stamp / WORD_VALUES != 0 {
         return Transaction::Refused(Refusal::WideStamp);
     }
-    let stamp = records::stamp_low(records, g, j);
-    let best = latest_row(log, log::rows(log.len()), g.record_address(j), stamp, time);
+    let f = g.format;
+    let low = (stamp % WORD_VALUES) as u32;
+    let best = latest_row(f, log, log::rows(log.len()), g.record_address(j), low, time);
     let row = best.row;
     match row {
         Place::At(k) => Transaction::Row(k),

@@ -8,6 +8,7 @@ use Rattle.tags.specs.Tag.{patternOf, isFree, isAllocated, isNeither}
 use Rattle.tags.specs.Verdict.{toldOf}
 use Rattle.chunks.specs.Chunk.{tagAt}
 use Rattle.chunks.specs.Judge.{freeVerdict, allocatedVerdict}
+use Rattle.tags.specs.declared.format.Format.{Format}
 use Rattle.tags.specs.declared.tag.Pattern.{Pattern}
 use Rattle.tags.specs.declared.verdict.Told.{Told}
 use Rattle.tags.specs.declared.verdict.Verdict.{Verdict}
@@ -26,8 +27,8 @@ abbrev pub standing : Bool → Bool → Standing
 standing met again = record { met = met; again = again }
 
 -- V21 (neither pattern) and the rules after it, for the pattern p of the chunk c
-unfoldable pub chainedVerdict : List ℕ → Pattern → Standing → Verdict
-chainedVerdict c p s =
+unfoldable pub chainedVerdict : Format → List ℕ → Pattern → Standing → Verdict
+chainedVerdict f c p s =
     cond (isNeither p) BadTag
     -- V22 (the chain is "again" at its record: freed twice)
     (cond (s .again) FreedTwice
@@ -36,11 +37,11 @@ chainedVerdict c p s =
     -- V24 (allocated, and on the chain)
     (cond (isAllocated p && s .met) OnChain
     -- J3: V25, V26, V0; J4, J5: V27, V28, V1, V2
-    (cond (isFree p) (freeVerdict c) (allocatedVerdict c)))))
+    (cond (isFree p) (freeVerdict f c) (allocatedVerdict f c)))))
 
 -- V21 (T0 is not the own record's address), for a record at the address a
-unfoldable pub ownedVerdict : List ℕ → ℕ → Standing → Verdict
-ownedVerdict c a s = cond (eqb (tagAt c .t0) a) (chainedVerdict c (patternOf (tagAt c)) s) BadTag
+unfoldable pub ownedVerdict : Format → List ℕ → ℕ → Standing → Verdict
+ownedVerdict f c a s = cond (eqb (tagAt f c .t0) a) (chainedVerdict f c (patternOf (tagAt f c)) s) BadTag
 
 -- H4 (the chain is "again" at record j)
 abbrev pub againAt : Ending → ℕ → Bool
@@ -61,7 +62,7 @@ standingOf c j = standing (metBy c j) (againAt (c .ending) j)
 -- J2 (the verdict on buffer i of an image): V20 (not exactly one record names it), and the rules after it
 unfoldable pub verdictOf : Image → ℕ → Verdict
 verdictOf m i =
-    byOwn (ownOf m i) (λ j. ownedVerdict (chunkAt m i) (recordAddress (m .sheet) j) (standingOf (chainOf m) j)) NotOneRecord
+    byOwn (ownOf m i) (λ j. ownedVerdict (m .sheet .format) (chunkAt m i) (recordAddress (m .sheet) j) (standingOf (chainOf m) j)) NotOneRecord
 
 -- K12 (findings as numbers): the index, the verdict's number, and its size or offset, else 0
 abbrev pub rowOf : ℕ → Told → List ℕ

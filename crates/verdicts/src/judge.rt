@@ -22,6 +22,7 @@ use geometry::sheet::Sheet;
 use places::heap;
 use places::records;
 use tags::ending::Ending;
+use tags::format::Format;
 use tags::tag::Tag;
 use tags::verdict;
 use tags::verdict::Told;
@@ -34,16 +35,16 @@ pub struct Standing {
 }
 
 // The rules from 22 on, and 21 for a tag of neither pattern.
-fn judge_chained(chunk: &[u8], tag: Tag, s: Standing) -> Told
+fn judge_chained(f: Format, chunk: &[u8], tag: Tag, s: Standing) -> Told
     requires { ⌜ ChunkLength (length (now chunk)) ⌝ }
-    ensures { λ r. ⌜ r ≡ toldOf (chainedVerdict (now (chunk .entry)) (patternOf tag) s) ⌝ }
+    ensures { λ r. ⌜ r ≡ toldOf (chainedVerdict f (now (chunk .entry)) (patternOf tag) s) ⌝ }
 {
     if tag.is_free() {
         if s.again {
             return verdict::tell(Verdict::FreedTwice);
         }
         if s.met {
-            return judge::judge_free(chunk);
+            return judge::judge_free(f, chunk);
         }
         return verdict::tell(Verdict::OffChain);
     }
@@ -54,7 +55,7 @@ fn judge_chained(chunk: &[u8], tag: Tag, s: Standing) -> Told
         if s.met {
             return verdict::tell(Verdict::OnChain);
         }
-        return judge::judge_allocated(chunk);
+        return judge::judge_allocated(f, chunk);
     }
     verdict::tell(Verdict::BadTag)
 }
@@ -111,8 +112,9 @@ pub fn judge_buffer(
     if marks::read(marks[i]).names != 1 {
         return verdict::tell(Verdict::NotOneRecord);
     }
+    let f = g.format;
     let chunk = heap::chunk(heap, g, i);
-    let tag = chunk::read_tag(chunk);
+    let tag = chunk::read_tag(f, chunk);
     let p = find_named(g, tag.t0, i);
     match p {
         Place::Nowhere => verdict::tell(Verdict::BadTag),
@@ -124,7 +126,7 @@ pub fn judge_buffer(
                 met: marks::read(marks[j]).met,
                 again: again_at(ending, j),
             };
-            judge_chained(chunk, tag, s)
+            judge_chained(f, chunk, tag, s)
         }
     }
 }
