@@ -10,10 +10,10 @@ use lib.ListN.{length}
 use Rattle.tags.specs.declared.refusal.Refusal.{Refusal}
 use Rattle.tags.specs.declared.refusal.Refusal.the-variants.{BadSheet, BadNumber, BadLength}
 use Rattle.sheet.specs.Opening.{Open, lengthsRight, areasOf, lengthsOf}
-use Rattle.sheet.specs.Fields.{sheetLength, shaped, sheetOf}
+use Rattle.sheet.specs.Fields.{shortLength, shaped, orderNumber, orderLawful, sheetOf}
 use Rattle.geometry.specs.Limits.{lawful}
 use Rattle.geometry.specs.Sheet.{heapLength, recordsLength}
-use Rattle.sheet.specs.Opening.{measured, numbered, openedOf, byOpened, openedWithLog}
+use Rattle.sheet.specs.Opening.{measured, numbered, ordered, openedOf, byOpened, openedWithLog}
 use Rattle.log.specs.Log.{logMost, logRight}
 use Rattle.log.proofs.Logs.{log-most}
 use Rattle.geometry.specs.declared.sheet.Sheet.{Sheet}
@@ -40,7 +40,7 @@ numbered-known g h r o e = go (lawful g) (lengthsRight g h r) refl refl e
 
 -- a sheet that opens: how long it is, its numbers, and that they are those of the areas
 pub record Opens (s : List ℕ) (h r : ℕ) (g : Sheet) : Type 0 where
-  pub long : length s ≡ sheetLength
+  pub long : shortLength ≤ length s
   pub same : g ≡ sheetOf s
   pub opens : Open h r g
 
