@@ -10,7 +10,8 @@ returns c =
     let f₃ = f₄ .before .before .before .before in
     let f₂ = f₃ .before .before .before .before in
     let f₁ = f₂ .before .before .before .before in
-    record-run _ _ _ _ _ _ _ _ _ _ (f₁ .write-u32 .ensures) (f₂ .write-u322 .ensures) (f₃ .write-u323 .ensures) (f₄ .write-u324 .ensures)
+    let a = f₁ .before .before .before .args in
+    record-run (a .f) _ _ _ _ _ _ _ _ _ _ (f₁ .write-u32 .ensures) (f₂ .write-u322 .ensures) (f₃ .write-u323 .ensures) (f₄ .write-u324 .ensures)
     (c .before .before .fill .ensures)
 
 pub write-spec : {M : Type 1} → statement M
