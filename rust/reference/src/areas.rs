@@ -1,10 +1,10 @@
 //! The heap and record areas with their sheet, and which addresses lie in them.
 
 use crate::chunk::Chunk;
-use crate::record::{ADDRESS_AT, MOST_LOG_BYTES, RECORD_SIZE, ROW_SIZE};
+use crate::record::{ADDRESS_AT, MOST_LOG_BYTES, RECORD_SIZE, ROW_SIZE, STAMP_AT};
 use crate::refusal::Refusal;
 use crate::sheet::Sheet;
-use crate::words::word;
+use crate::words::{long, word};
 
 /// A lawful sheet with a heap area and a record area of the right lengths.
 pub struct Areas<'a> {
@@ -79,12 +79,21 @@ impl<'a> Areas<'a> {
         let chunk_size = self.sheet.chunk_size as usize;
         let start = index * chunk_size;
         let bytes = &self.heap[start..start + chunk_size];
-        Chunk::new(bytes, self.sheet.size as usize)
+        Chunk::new(self.sheet.order, bytes, self.sheet.size as usize)
     }
 
     /// The word at an offset in record `index`.
     pub fn record_word(&self, index: usize, at: usize) -> u32 {
-        word(self.records, index * RECORD_SIZE + at)
+        word(self.sheet.order, self.records, index * RECORD_SIZE + at)
+    }
+
+    /// The timestamp of record `index`, "as one eight-byte number".
+    pub fn record_stamp(&self, index: usize) -> u64 {
+        long(
+            self.sheet.order,
+            self.records,
+            index * RECORD_SIZE + STAMP_AT,
+        )
     }
 
     /// The buffer that record `index` names by its address word, if it names one.

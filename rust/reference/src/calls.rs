@@ -2,18 +2,18 @@
 
 use crate::areas::Areas;
 use crate::chunk::{write_free, write_granted, Grant, Pattern};
-use crate::record::{
-    ADDRESS_AT, CACHE_AT, NEXT_AT, RECORD_SIZE, STAMP_HIGH_AT, STAMP_LOW_AT, THREAD_AT,
-};
+use crate::record::{ADDRESS_AT, CACHE_AT, NEXT_AT, RECORD_SIZE, STAMP_AT, THREAD_AT};
 use crate::refusal::Refusal;
-use crate::sheet::{Sheet, FLAGS, HEAD_AT, SHEET_LENGTH};
+use crate::sheet::{put_head, Sheet, FLAGS, SHEET_LENGTH};
 use crate::verdict::Verdict;
-use crate::words::put_word;
+use crate::words::{put_long, put_word, Order};
 
 /// "Lay out writes all three areas; all buffers free; buffer i paired with record i;
 /// chain 0 to n-1 in order."
-/// Refusals "1 by its sheet area's length alone, 2 on its arguments", then 3.
+/// "Lay out takes the order and always writes 52 bytes, with refusal 1 for a sheet
+/// area of any other length." Then refusal "2 on its arguments", then 3.
 pub fn lay_out(
+    order: Order,
     cache: u32,
     heap_base: u32,
     record_base: u32,
@@ -35,6 +35,7 @@ pub fn lay_out(
         count,
         head: record_base,
         flags: FLAGS,
+        order,
     };
     if !numbers.obeys_limits() {
         return Err(Refusal::plain(2));
@@ -53,7 +54,7 @@ fn lay_out_chunks(numbers: &Sheet, heap: &mut [u8]) {
     let chunks = heap.chunks_exact_mut(numbers.chunk_size as usize);
     for (index, chunk) in (0..numbers.count).zip(chunks) {
         let record_address = numbers.record_base + index * RECORD_SIZE as u32;
-        write_free(chunk, numbers.size as usize, record_address);
+        write_free(numbers.order, chunk, numbers.size as usize, record_address);
     }
 }
 
@@ -67,13 +68,14 @@ fn lay_out_records(numbers: &Sheet, records: &mut [u8]) {
         } else {
             numbers.record_base + (index + 1) * RECORD_SIZE as u32
         };
-        put_word(record, NEXT_AT, next);
+        put_word(numbers.order, record, NEXT_AT, next);
         put_word(
+            numbers.order,
             record,
             ADDRESS_AT,
             numbers.heap_base + index * numbers.chunk_size,
         );
-        put_word(record, CACHE_AT, numbers.cache);
+        put_word(numbers.order, record, CACHE_AT, numbers.cache);
     }
 }
 
@@ -95,15 +97,16 @@ pub fn allocate(
 ) -> Result<u32, Refusal> {
     let areas = Areas::read(sheet, heap, records)?;
     let Pair { record, buffer } = free_head(&areas, grant)?;
+    let order = areas.sheet.order;
     let head = areas.sheet.head;
     let next = areas.record_word(record, NEXT_AT);
     let address = areas.buffer_address(buffer);
     let size = areas.sheet.size as usize;
     let chunk_size = areas.sheet.chunk_size as usize;
 
-    write_granted(part(heap, buffer, chunk_size), size, head, grant);
-    stamp(part(records, record, RECORD_SIZE), uptime, thread);
-    put_word(sheet, HEAD_AT, next);
+    write_granted(order, part(heap, buffer, chunk_size), size, head, grant);
+    stamp(order, part(records, record, RECORD_SIZE), uptime, thread);
+    put_head(sheet, next);
     Ok(address)
 }
 
@@ -153,15 +156,17 @@ pub fn free(
     if grant != granted {
         return Err(Refusal::plain(9));
     }
+    let order = areas.sheet.order;
     let old_head = areas.sheet.head;
     let record_address = areas.record_address(record);
     let size = areas.sheet.size as usize;
     let chunk_size = areas.sheet.chunk_size as usize;
 
-    write_free(part(heap, buffer, chunk_size), size, record_address);
-    put_word(part(records, record, RECORD_SIZE), NEXT_AT, old_head);
-    stamp(part(records, record, RECORD_SIZE), uptime, thread);
-    put_word(sheet, HEAD_AT, record_address);
+    write_free(order, part(heap, buffer, chunk_size), size, record_address);
+    let record = part(records, record, RECORD_SIZE);
+    put_word(order, record, NEXT_AT, old_head);
+    stamp(order, record, uptime, thread);
+    put_head(sheet, record_address);
     Ok(())
 }
 
@@ -232,11 +237,10 @@ fn client_length(areas: &Areas, granted: Grant) -> usize {
 }
 
 /// "Both write timestamp (high four bytes 0, low four the uptime) and thread in the
-/// record."
-fn stamp(record: &mut [u8], uptime: u32, thread: u32) {
-    put_word(record, STAMP_HIGH_AT, 0);
-    put_word(record, STAMP_LOW_AT, uptime);
-    put_word(record, THREAD_AT, thread);
+/// record", "the stamp as one eight-byte number".
+fn stamp(order: Order, record: &mut [u8], uptime: u32, thread: u32) {
+    put_long(order, record, STAMP_AT, u64::from(uptime));
+    put_word(order, record, THREAD_AT, thread);
 }
 
 /// The part of an area with this index, where each part has the same length.

@@ -2,7 +2,7 @@
 //! address, and T1". How it is written and how it is judged by itself.
 
 use crate::verdict::Verdict;
-use crate::words::{put_word, word};
+use crate::words::{put_word, word, word_bytes, Order};
 
 /// "The tag word T0 xor T1 has two named patterns."
 #[derive(Clone, Copy, PartialEq, Eq, Debug)]
@@ -14,10 +14,13 @@ pub enum Pattern {
 const ALLOCATED_TAG: u32 = 0xa110_c8ed;
 const FREE_TAG: u32 = 0xf4ee_f4ee;
 
-const FREE_FILL: [u8; 4] = [0xde, 0xad, 0xbe, 0xef];
-const GRANTED_FILL: [u8; 4] = [0xba, 0xdd, 0xca, 0xfe];
-const REDZONE: [u8; 4] = [0xfe, 0xed, 0xfa, 0xce];
-const REDZONE_WORD: u32 = 0xfeed_face;
+/// The words a buffer and its redzone repeat. Their bytes "follow the order, so the
+/// fill is ef be ad de" with the low byte first.
+const FREE_FILL: u32 = 0xdead_beef;
+const GRANTED_FILL: u32 = 0xbadd_cafe;
+const REDZONE: u32 = 0xfeed_face;
+
+/// The guard is one byte at its offset, whatever the order.
 const GUARD: u8 = 0xbb;
 
 /// What was granted: the whole buffer, or so many bytes of it.
@@ -27,16 +30,17 @@ pub enum Grant {
     Sized(u32),
 }
 
-/// The bytes of one chunk and its buffer size.
+/// The bytes of one chunk, its buffer size and the order of its words.
 #[derive(Clone, Copy)]
 pub struct Chunk<'a> {
+    order: Order,
     bytes: &'a [u8],
     size: usize,
 }
 
 impl<'a> Chunk<'a> {
-    pub fn new(bytes: &'a [u8], size: usize) -> Chunk<'a> {
-        Chunk { bytes, size }
+    pub fn new(order: Order, bytes: &'a [u8], size: usize) -> Chunk<'a> {
+        Chunk { order, bytes, size }
     }
 
     fn r0(&self) -> &'a [u8] {
@@ -44,15 +48,20 @@ impl<'a> Chunk<'a> {
     }
 
     fn r1(&self) -> u32 {
-        word(self.bytes, self.size + 4)
+        word(self.order, self.bytes, self.size + 4)
     }
 
     pub fn t0(&self) -> u32 {
-        word(self.bytes, self.size + 8)
+        word(self.order, self.bytes, self.size + 8)
     }
 
     fn t1(&self) -> u32 {
-        word(self.bytes, self.size + 12)
+        word(self.order, self.bytes, self.size + 12)
+    }
+
+    /// The bytes of a word in this chunk's order.
+    fn wanted(&self, word: u32) -> [u8; 4] {
+        word_bytes(self.order, word)
     }
 
     /// "0xa110c8ed when allocated and 0xf4eef4ee when free"; none for any other xor.
@@ -67,11 +76,12 @@ impl<'a> Chunk<'a> {
     /// "Free pattern: 25 if the fill differs; 26 if the redzone differs; each with
     /// the first differing byte offset from the buffer's start. Else 0, free."
     pub fn judge_free(&self) -> Verdict {
+        let buffer = &self.bytes[..self.size];
         let redzone = &self.bytes[self.size..self.size + 8];
-        if let Some(offset) = first_difference(&self.bytes[..self.size], FREE_FILL) {
+        if let Some(offset) = first_difference(buffer, self.wanted(FREE_FILL)) {
             return Verdict::FillDiffers(offset as u32);
         }
-        if let Some(offset) = first_difference(redzone, REDZONE) {
+        if let Some(offset) = first_difference(redzone, self.wanted(REDZONE)) {
             return Verdict::RedzoneDiffers((self.size + offset) as u32);
         }
         Verdict::Free
@@ -80,10 +90,10 @@ impl<'a> Chunk<'a> {
     /// "R1 = 0xfeedface: 28 with the first differing offset if R0 differs from
     /// 0xfeedface; else 1, whole." Any other R1 is judged as a size code.
     pub fn judge_allocated(&self) -> Verdict {
-        if self.r1() != REDZONE_WORD {
+        if self.r1() != REDZONE {
             return self.judge_sized();
         }
-        match first_difference(self.r0(), REDZONE) {
+        match first_difference(self.r0(), self.wanted(REDZONE)) {
             Some(offset) => Verdict::GuardDiffers((self.size + offset) as u32),
             None => Verdict::Whole,
         }
@@ -91,7 +101,8 @@ impl<'a> Chunk<'a> {
 
     /// "Then s = R1/251: 28 at s if that byte isn't 0xbb; else 28 at R0's first
     /// byte that differs from fe ed fa ce (with bb first when s is buffer size);
-    /// else 2, allocated s."
+    /// else 2, allocated s." With the low byte first these are ce fa ed fe, and "a
+    /// full-size grant's R0 word reads 0xfeedfabb".
     fn judge_sized(&self) -> Verdict {
         let Some(s) = coded_size(self.r1(), self.size) else {
             return Verdict::BadSizeCode;
@@ -99,7 +110,7 @@ impl<'a> Chunk<'a> {
         if self.bytes[s] != GUARD {
             return Verdict::GuardDiffers(s as u32);
         }
-        let mut wanted = REDZONE;
+        let mut wanted = self.wanted(REDZONE);
         if s == self.size {
             wanted[0] = GUARD;
         }
@@ -125,33 +136,39 @@ fn first_difference(bytes: &[u8], wanted: [u8; 4]) -> Option<usize> {
         .position(|(byte, wanted)| byte != wanted)
 }
 
-/// Fills bytes with four bytes repeated.
-fn fill(bytes: &mut [u8], pattern: [u8; 4]) {
-    for (byte, wanted) in bytes.iter_mut().zip(pattern.iter().cycle()) {
+/// Fills bytes with a word repeated.
+fn fill(order: Order, bytes: &mut [u8], word: u32) {
+    for (byte, wanted) in bytes.iter_mut().zip(word_bytes(order, word).iter().cycle()) {
         *byte = *wanted;
     }
 }
 
 /// "T0, the record's address, and T1": the two words whose xor is the pattern.
-fn put_tag(chunk: &mut [u8], size: usize, record_address: u32, tag: u32) {
-    put_word(chunk, size + 8, record_address);
-    put_word(chunk, size + 12, record_address ^ tag);
+fn put_tag(order: Order, chunk: &mut [u8], size: usize, record_address: u32, tag: u32) {
+    put_word(order, chunk, size + 8, record_address);
+    put_word(order, chunk, size + 12, record_address ^ tag);
 }
 
 /// "Free: the buffer repeats de ad be ef; R0 and R1 are both 0xfeedface."
-pub fn write_free(chunk: &mut [u8], size: usize, record_address: u32) {
-    fill(&mut chunk[..size], FREE_FILL);
-    fill(&mut chunk[size..size + 8], REDZONE);
-    put_tag(chunk, size, record_address, FREE_TAG);
+pub fn write_free(order: Order, chunk: &mut [u8], size: usize, record_address: u32) {
+    fill(order, &mut chunk[..size], FREE_FILL);
+    fill(order, &mut chunk[size..size + 8], REDZONE);
+    put_tag(order, chunk, size, record_address, FREE_TAG);
 }
 
 /// "Granted: the buffer is first filled with ba dd ca fe. A whole grant keeps both
 /// redzone words. A grant of s bytes puts 0xbb at offset s and 251*s+1 in R1."
-pub fn write_granted(chunk: &mut [u8], size: usize, record_address: u32, grant: Grant) {
-    fill(&mut chunk[..size], GRANTED_FILL);
+pub fn write_granted(
+    order: Order,
+    chunk: &mut [u8],
+    size: usize,
+    record_address: u32,
+    grant: Grant,
+) {
+    fill(order, &mut chunk[..size], GRANTED_FILL);
     if let Grant::Sized(s) = grant {
         chunk[s as usize] = GUARD;
-        put_word(chunk, size + 4, 251 * s + 1);
+        put_word(order, chunk, size + 4, 251 * s + 1);
     }
-    put_tag(chunk, size, record_address, ALLOCATED_TAG);
+    put_tag(order, chunk, size, record_address, ALLOCATED_TAG);
 }

@@ -1,7 +1,7 @@
 //! The latest transaction of a buffer.
 
 use crate::areas::Areas;
-use crate::record::{ROW_SIZE, STAMP_HIGH_AT, STAMP_LOW_AT};
+use crate::record::ROW_SIZE;
 use crate::refusal::Refusal;
 use crate::words::word;
 
@@ -28,20 +28,23 @@ pub fn latest(
         return Err(Refusal::plain(4));
     }
     let own_record = areas.own_records()[index as usize].ok_or(Refusal::damage(20))?;
-    if areas.record_word(own_record, STAMP_HIGH_AT) != 0 {
-        return Err(Refusal::plain(12));
-    }
-    let mut smallest = age(now, areas.record_word(own_record, STAMP_LOW_AT));
+    let mut smallest = age(now, narrow(areas.record_stamp(own_record))?);
     let mut answer = Latest::Record(own_record);
+    let order = areas.sheet.order;
     for (number, row) in log.chunks_exact(ROW_SIZE).enumerate() {
-        let names_own_record = word(row, 0) == areas.record_address(own_record);
-        let row_age = age(now, word(row, 4));
+        let names_own_record = word(order, row, 0) == areas.record_address(own_record);
+        let row_age = age(now, word(order, row, 4));
         if names_own_record && row_age <= smallest {
             smallest = row_age;
             answer = Latest::Row(number);
         }
     }
     Ok(answer)
+}
+
+/// Refusal 12, "record stamp with a non-zero high half"; else its low half.
+fn narrow(stamp: u64) -> Result<u32, Refusal> {
+    u32::try_from(stamp).map_err(|_| Refusal::plain(12))
 }
 
 /// "Age is now minus stamp modulo 2^32."

@@ -8,8 +8,7 @@ pub const RECORD_SIZE: usize = 96;
 pub const NEXT_AT: usize = 0;
 pub const ADDRESS_AT: usize = 4;
 pub const CACHE_AT: usize = 12;
-pub const STAMP_HIGH_AT: usize = 16;
-pub const STAMP_LOW_AT: usize = 20;
+pub const STAMP_AT: usize = 16;
 pub const THREAD_AT: usize = 24;
 
 /// "The log is 0 to 1,024 rows of 16 bytes: record address, uptime, thread, kind."

@@ -1,19 +1,25 @@
-//! The sheet: 48 bytes of tagged fields, and the limits on their numbers.
+//! The sheet: 48 or 52 bytes of tagged fields, and the limits on their numbers.
 
 use crate::record::RECORD_SIZE;
 use crate::refusal::Refusal;
+use crate::words::{put_word, Order};
 
-/// "The sheet is exactly 48 bytes."
-pub const SHEET_LENGTH: usize = 48;
+/// "The sheet gains tag 9." "A sheet of 52 bytes has it."
+pub const SHEET_LENGTH: usize = 52;
+
+/// The form without tag 9: "one of 48 bytes means 0".
+pub const SHORT_SHEET_LENGTH: usize = 48;
 
 /// "Flags are 0x020f."
 pub const FLAGS: u32 = 0x020f;
 
-/// Where the body of tag 7, the chain head, stands: all lengths before it are fixed.
-pub const HEAD_AT: usize = 39;
+/// Where the body of tag 7, the chain head, stands: all lengths before it are fixed,
+/// and tag 9 comes after it.
+const HEAD_AT: usize = 39;
 
-/// "Tags 1 to 8 stand once each, in order": each tag with its length.
-const FIELDS: [(u8, u16); 8] = [
+/// "Tags 1 to 8 stand once each, in order", then "tag 9, length 1" in the longer
+/// form: each tag with its length.
+const FIELDS: [(u8, u16); 9] = [
     (1, 4),
     (2, 4),
     (3, 4),
@@ -22,9 +28,10 @@ const FIELDS: [(u8, u16); 8] = [
     (6, 2),
     (7, 4),
     (8, 2),
+    (9, 1),
 ];
 
-/// The numbers of the eight fields, in the order of their tags.
+/// The numbers of the fields, by their tags from 1 on.
 #[derive(Clone, Copy)]
 pub struct Sheet {
     pub cache: u32,
@@ -35,17 +42,35 @@ pub struct Sheet {
     pub count: u32,
     pub head: u32,
     pub flags: u32,
+    pub order: Order,
 }
 
 impl Sheet {
-    /// Refusal 1, "sheet isn't 48 bytes of the stated tags and lengths", then
-    /// refusal 2, "a sheet number breaks a limit or a rule".
+    /// Refusal 1, the sheet has "neither form", then refusal 2, "a sheet number
+    /// breaks a limit or a rule", or tag 9 has "other values" than 0 and 1.
     pub fn read(bytes: &[u8]) -> Result<Sheet, Refusal> {
-        let sheet = read_fields(bytes).ok_or(Refusal::plain(1))?;
+        let numbers = read_fields(bytes).ok_or(Refusal::plain(1))?;
+        let sheet = Sheet::from_numbers(numbers).ok_or(Refusal::plain(2))?;
         if !sheet.obeys_limits() {
             return Err(Refusal::plain(2));
         }
         Ok(sheet)
+    }
+
+    /// The numbers by name; none if the last means no order.
+    fn from_numbers(numbers: [u32; 9]) -> Option<Sheet> {
+        let [cache, heap_base, record_base, size, chunk_size, count, head, flags, order] = numbers;
+        Some(Sheet {
+            cache,
+            heap_base,
+            record_base,
+            size,
+            chunk_size,
+            count,
+            head,
+            flags,
+            order: Order::from_number(order)?,
+        })
     }
 
     /// The limits of "Sheet and areas". "Cache address and chain head may be any number."
@@ -81,7 +106,7 @@ impl Sheet {
         self.count as usize * RECORD_SIZE
     }
 
-    /// Writes the eight fields over 48 bytes.
+    /// Writes the nine fields over 52 bytes. "Sheet fields stay big-endian."
     pub fn write(&self, bytes: &mut [u8]) {
         let numbers = [
             self.cache,
@@ -92,6 +117,7 @@ impl Sheet {
             self.count,
             self.head,
             self.flags,
+            self.order.number(),
         ];
         let mut at = 0;
         for (number, (tag, length)) in numbers.into_iter().zip(FIELDS) {
@@ -106,14 +132,17 @@ impl Sheet {
 }
 
 /// "Tagged fields, a one-byte tag, a two-byte length, the body." None unless
-/// there are 48 bytes with the stated tags and lengths.
-fn read_fields(bytes: &[u8]) -> Option<Sheet> {
-    if bytes.len() != SHEET_LENGTH {
-        return None;
-    }
-    let mut numbers = [0u32; 8];
+/// there are 48 or 52 bytes with the stated tags and lengths. "One of 48 bytes
+/// means 0" for the order.
+fn read_fields(bytes: &[u8]) -> Option<[u32; 9]> {
+    let fields = match bytes.len() {
+        SHORT_SHEET_LENGTH => &FIELDS[..8],
+        SHEET_LENGTH => &FIELDS[..],
+        _ => return None,
+    };
+    let mut numbers = [0; 9];
     let mut at = 0;
-    for (number, (tag, length)) in numbers.iter_mut().zip(FIELDS) {
+    for (number, &(tag, length)) in numbers.iter_mut().zip(fields) {
         let body = at + 3;
         let end = body + usize::from(length);
         if bytes[at] != tag || bytes[at + 1..body] != length.to_be_bytes() {
@@ -124,17 +153,12 @@ fn read_fields(bytes: &[u8]) -> Option<Sheet> {
         }
         at = end;
     }
-    let [cache, heap_base, record_base, size, chunk_size, count, head, flags] = numbers;
-    Some(Sheet {
-        cache,
-        heap_base,
-        record_base,
-        size,
-        chunk_size,
-        count,
-        head,
-        flags,
-    })
+    Some(numbers)
+}
+
+/// Writes the chain head into a sheet of either form. "Sheet fields stay big-endian."
+pub fn put_head(sheet: &mut [u8], head: u32) {
+    put_word(Order::HighFirst, sheet, HEAD_AT, head);
 }
 
 /// "Both bases are non-zero multiples of 8; base plus area length is at most 2^32."
@@ -151,4 +175,9 @@ fn share_no_address(base: u64, length: u64, other_base: u64, other_length: u64) 
 pub fn area_lengths(sheet: &[u8]) -> Result<(usize, usize), Refusal> {
     let sheet = Sheet::read(sheet)?;
     Ok((sheet.heap_length(), sheet.record_length()))
+}
+
+/// The order a sheet gives the words of its areas, or refusal 1 or 2.
+pub fn sheet_order(sheet: &[u8]) -> Result<Order, Refusal> {
+    Ok(Sheet::read(sheet)?.order)
 }

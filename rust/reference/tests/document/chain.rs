@@ -1,6 +1,6 @@
 //! The chain's endings and the records it meets.
 
-use crate::image::{dump, dump_with_head, put, Image, NEXT, RECORD, RECORD_0, RECORD_1, RECORD_2};
+use crate::image::*;
 use reference::{chain, Chain, Ending};
 
 fn expect(image: &Image, met: &[usize], ending: Ending) {
@@ -14,58 +14,75 @@ fn expect(image: &Image, met: &[usize], ending: Ending) {
 
 #[test]
 fn dump_chain_meets_record_2_then_record_0() {
-    expect(&dump(), &[2, 0], Ending::End);
+    for form in FORMS {
+        expect(&dump(form), &[2, 0], Ending::End);
+    }
 }
 
 #[test]
 fn head_0_meets_none() {
-    expect(&dump_with_head(0), &[], Ending::End);
+    for form in FORMS {
+        expect(&dump_with_head(form, 0), &[], Ending::End);
+    }
 }
 
 #[test]
 fn chain_through_every_record_is_no_cycle() {
-    let mut image = dump_with_head(RECORD_1);
-    put(&mut image.records, RECORD[1] + NEXT, RECORD_2);
-    expect(&image, &[1, 2, 0], Ending::End);
+    for form in FORMS {
+        let mut image = dump_with_head(form, RECORD_1);
+        image.put_record(RECORD[1] + NEXT, RECORD_2);
+        expect(&image, &[1, 2, 0], Ending::End);
+    }
 }
 
 #[test]
 fn head_that_is_no_record_is_broken() {
-    // One before the first, one past the last, inside one, and an address of the heap.
-    for head in [
-        RECORD_0 - 96,
-        RECORD_0 + 288,
-        RECORD_0 + 4,
-        0x70a9_add8,
-        1,
-        u32::MAX,
-    ] {
-        expect(&dump_with_head(head), &[], Ending::Broken);
+    for form in FORMS {
+        // One before the first, one past the last, inside one, and an address of the heap.
+        for head in [
+            RECORD_0 - 96,
+            RECORD_0 + 288,
+            RECORD_0 + 4,
+            0x70a9_add8,
+            RECORD_0.swap_bytes(),
+            1,
+            u32::MAX,
+        ] {
+            expect(&dump_with_head(form, head), &[], Ending::Broken);
+        }
     }
 }
 
 #[test]
 fn next_word_that_is_no_record_is_broken_after_the_record() {
-    let mut image = dump();
-    put(&mut image.records, RECORD[0] + NEXT, RECORD_0 + 48);
-    expect(&image, &[2, 0], Ending::Broken);
+    for form in FORMS {
+        let mut image = dump(form);
+        image.put_record(RECORD[0] + NEXT, RECORD_0 + 48);
+        expect(&image, &[2, 0], Ending::Broken);
+        image.put_record(RECORD[0] + NEXT, RECORD_1.swap_bytes());
+        expect(&image, &[2, 0], Ending::Broken);
+    }
 }
 
 #[test]
 fn record_naming_itself_is_again_and_counted_once() {
-    let mut image = dump();
-    put(&mut image.records, RECORD[2] + NEXT, RECORD_2);
-    expect(&image, &[2], Ending::Again(2));
+    for form in FORMS {
+        let mut image = dump(form);
+        image.put_record(RECORD[2] + NEXT, RECORD_2);
+        expect(&image, &[2], Ending::Again(2));
+    }
 }
 
 #[test]
 fn again_names_the_record_met_twice_and_not_the_last() {
-    let mut image = dump();
-    put(&mut image.records, RECORD[0] + NEXT, RECORD_2);
-    expect(&image, &[2, 0], Ending::Again(2));
+    for form in FORMS {
+        let mut image = dump(form);
+        image.put_record(RECORD[0] + NEXT, RECORD_2);
+        expect(&image, &[2, 0], Ending::Again(2));
 
-    let mut image = dump_with_head(RECORD_1);
-    put(&mut image.records, RECORD[1] + NEXT, RECORD_2);
-    put(&mut image.records, RECORD[0] + NEXT, RECORD_2);
-    expect(&image, &[1, 2, 0], Ending::Again(2));
+        let mut image = dump_with_head(form, RECORD_1);
+        image.put_record(RECORD[1] + NEXT, RECORD_2);
+        image.put_record(RECORD[0] + NEXT, RECORD_2);
+        expect(&image, &[1, 2, 0], Ending::Again(2));
+    }
 }

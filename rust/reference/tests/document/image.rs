@@ -1,6 +1,7 @@
-//! The dump case, byte for byte, and small means to change an image by hand.
+//! The dump case, in every form of the sheet, and small means to change an image by
+//! hand.
 
-use reference::Refusal;
+use reference::{Order, Refusal};
 
 pub const CACHE: u32 = 0x7003_9928;
 pub const BUFFER_0: u32 = 0x70a9_add8;
@@ -21,12 +22,67 @@ pub const T0: usize = 32;
 pub const T1: usize = 36;
 pub const NEXT: usize = 0;
 pub const ADDRESS: usize = 4;
-pub const STAMP_HIGH: usize = 16;
-pub const STAMP_LOW: usize = 20;
+pub const STAMP: usize = 16;
 pub const THREAD: usize = 24;
 
 /// Where the body of the chain head stands in a sheet.
 pub const HEAD: usize = 39;
+
+/// The forms of a sheet: 48 bytes, or 52 bytes with one or the other order.
+#[derive(Clone, Copy, PartialEq, Debug)]
+pub enum Form {
+    Short,
+    High,
+    Low,
+}
+
+pub const FORMS: [Form; 3] = [Form::Short, Form::High, Form::Low];
+
+/// The forms that lay out writes.
+pub const LONG_FORMS: [Form; 2] = [Form::High, Form::Low];
+
+impl Form {
+    /// What tag 9 means, or a sheet without it.
+    pub fn order(self) -> Order {
+        match self {
+            Form::Short | Form::High => Order::HighFirst,
+            Form::Low => Order::LowFirst,
+        }
+    }
+
+    /// The bytes of the field with tag 9, if the form has it.
+    pub fn last_field(self) -> &'static [u8] {
+        match self {
+            Form::Short => &[],
+            Form::High => &[9, 0, 1, 0],
+            Form::Low => &[9, 0, 1, 1],
+        }
+    }
+
+    /// One of two values: where the high byte stands first, and where the low byte
+    /// does.
+    pub fn pick<T>(self, high: T, low: T) -> T {
+        match self.order() {
+            Order::HighFirst => high,
+            Order::LowFirst => low,
+        }
+    }
+
+    /// The bytes of a word.
+    pub fn word(self, word: u32) -> [u8; 4] {
+        self.pick(word.to_be_bytes(), word.to_le_bytes())
+    }
+
+    /// The bytes of a row of words.
+    pub fn words(self, words: &[u32]) -> Vec<u8> {
+        words.iter().flat_map(|word| self.word(*word)).collect()
+    }
+
+    /// Writes a word.
+    pub fn put(self, bytes: &mut [u8], at: usize, word: u32) {
+        bytes[at..at + 4].copy_from_slice(&self.word(word));
+    }
+}
 
 /// When a call is made, and by which thread.
 pub const UPTIME: u32 = 0x1122_3344;
@@ -44,71 +100,119 @@ const DUMP_SHEET: [u8; 48] = [
     8, 0, 2, 0x02, 0x0f,
 ];
 
+/// The words of the heap, but for the one that holds the guard.
 #[rustfmt::skip]
 const DUMP_HEAP: [u32; 30] = [
     0xdeadbeef, 0xdeadbeef, 0xdeadbeef, 0xdeadbeef, 0xdeadbeef, 0xdeadbeef,
     0xfeedface, 0xfeedface, 0x70ae3260, 0x8440c68e,
-    0x00000005, 0x0004ef83, 0x00000000, 0x00000000, 0x00000001, 0xbbddcafe,
+    0x00000005, 0x0004ef83, 0x00000000, 0x00000000, 0x00000001, 0x00000000,
     0xfeedface, 0x0000139d, 0x70ae3200, 0xd1befaed,
     0xdeadbeef, 0xdeadbeef, 0xdeadbeef, 0xdeadbeef, 0xdeadbeef, 0xdeadbeef,
     0xfeedface, 0xfeedface, 0x70ae31a0, 0x8440c54e,
 ];
 
-/// Next, address, slab, cache, timestamp, thread, lastlog, contents, depth, stack.
+/// Next, address, slab, cache, timestamp (here 0), thread, lastlog, contents, depth,
+/// stack.
 #[rustfmt::skip]
 const DUMP_RECORDS: [u32; 72] = [
-    0x00000000, 0x70a9ae28, 0x70a9fe00, 0x70039928, 0, 0x00000a00, 0x7004a000, 0x51, 0x61, 2,
+    0x00000000, 0x70a9ae28, 0x70a9fe00, 0x70039928, 0, 0, 0x7004a000, 0x51, 0x61, 2,
     0x101, 0x102, 0, 0, 0, 0, 0, 0, 0, 0, 0, 0, 0, 0,
-    0x70ae31a0, 0x70a9ae00, 0x70a9fe00, 0x70039928, 0, 0x00000b00, 0x7004b000, 0x52, 0x62, 3,
+    0x70ae31a0, 0x70a9ae00, 0x70a9fe00, 0x70039928, 0, 0, 0x7004b000, 0x52, 0x62, 3,
     0x103, 0x104, 0x105, 0, 0, 0, 0, 0, 0, 0, 0, 0, 0, 0,
-    0x70ae31a0, 0x70a9add8, 0x70a9fe00, 0x70039928, 0, 0x00000c00, 0x7004c000, 0x53, 0x63, 1,
+    0x70ae31a0, 0x70a9add8, 0x70a9fe00, 0x70039928, 0, 0, 0x7004c000, 0x53, 0x63, 1,
     0x106, 0, 0, 0, 0, 0, 0, 0, 0, 0, 0, 0, 0, 0,
 ];
+
+/// The timestamps of the records.
+const DUMP_STAMPS: [u64; 3] = [0xa00, 0xb00, 0xc00];
 
 /// "Whole report, 64 bytes."
 pub const DUMP_REPORT: &str =
     "heap report 1\n0 free\n1 allocated 20\n2 free\nchain 2 end\nfaults 0\n";
 
-/// The three areas of one image.
+/// The bytes that hold the guard of buffer 1, with the granted fill after it: the
+/// guard is the byte at offset 20 in both orders.
+const DUMP_GUARD: usize = 60;
+const DUMP_GUARD_HIGH: [u8; 4] = [0xbb, 0xdd, 0xca, 0xfe];
+const DUMP_GUARD_LOW: [u8; 4] = [0xbb, 0xca, 0xdd, 0xba];
+
+/// The three areas of one image, and the form they are in.
 #[derive(Clone, PartialEq, Debug)]
 pub struct Image {
+    pub form: Form,
     pub sheet: Vec<u8>,
     pub heap: Vec<u8>,
     pub records: Vec<u8>,
 }
 
-/// The dump case.
-pub fn dump() -> Image {
-    Image {
-        sheet: DUMP_SHEET.to_vec(),
-        heap: words(&DUMP_HEAP),
-        records: words(&DUMP_RECORDS),
+impl Image {
+    /// Writes a word of the heap.
+    pub fn put_heap(&mut self, at: usize, word: u32) {
+        self.form.put(&mut self.heap, at, word);
+    }
+
+    /// Writes a word of the records.
+    pub fn put_record(&mut self, at: usize, word: u32) {
+        self.form.put(&mut self.records, at, word);
+    }
+
+    /// Writes the stamp of the record at this place, one number of eight bytes.
+    pub fn put_stamp(&mut self, record: usize, stamp: u64) {
+        let bytes = self.form.pick(stamp.to_be_bytes(), stamp.to_le_bytes());
+        self.records[record + STAMP..][..8].copy_from_slice(&bytes);
     }
 }
 
+/// The dump case.
+pub fn dump(form: Form) -> Image {
+    let mut heap = form.words(&DUMP_HEAP);
+    let guard = form.pick(DUMP_GUARD_HIGH, DUMP_GUARD_LOW);
+    heap[DUMP_GUARD..DUMP_GUARD + 4].copy_from_slice(&guard);
+    let mut image = Image {
+        form,
+        sheet: [&DUMP_SHEET, form.last_field()].concat(),
+        heap,
+        records: form.words(&DUMP_RECORDS),
+    };
+    for (record, stamp) in RECORD.into_iter().zip(DUMP_STAMPS) {
+        image.put_stamp(record, stamp);
+    }
+    image
+}
+
 /// The dump case with another chain head.
-pub fn dump_with_head(head: u32) -> Image {
-    let mut image = dump();
-    put(&mut image.sheet, HEAD, head);
+pub fn dump_with_head(form: Form, head: u32) -> Image {
+    let mut image = dump(form);
+    put_sheet(&mut image.sheet, HEAD, head);
     image
 }
 
 /// The dump with buffer 1 granted by these redzone words.
-pub fn dump_with_redzone(r0: u32, r1: u32) -> Image {
-    let mut image = dump();
-    put(&mut image.heap, CHUNK[1] + R0, r0);
-    put(&mut image.heap, CHUNK[1] + R1, r1);
+pub fn dump_with_redzone(form: Form, r0: u32, r1: u32) -> Image {
+    let mut image = dump(form);
+    image.put_heap(CHUNK[1] + R0, r0);
+    image.put_heap(CHUNK[1] + R1, r1);
     image
 }
 
-/// The big-endian bytes of a row of words.
-pub fn words(words: &[u32]) -> Vec<u8> {
-    words.iter().flat_map(|word| word.to_be_bytes()).collect()
+/// The R0 word after a full-size grant: the byte bb stands first in memory.
+pub fn full_r0(form: Form) -> u32 {
+    form.pick(0xbbedface, 0xfeedfabb)
 }
 
-/// Writes a big-endian word.
-pub fn put(bytes: &mut [u8], at: usize, word: u32) {
-    bytes[at..at + 4].copy_from_slice(&word.to_be_bytes());
+/// Areas of these lengths with 0 in every byte, for lay out to write.
+pub fn blank(form: Form, heap_length: usize, record_length: usize) -> Image {
+    Image {
+        form,
+        sheet: vec![0; 52],
+        heap: vec![0; heap_length],
+        records: vec![0; record_length],
+    }
+}
+
+/// Writes a word of a sheet: "sheet fields stay big-endian".
+pub fn put_sheet(sheet: &mut [u8], at: usize, word: u32) {
+    sheet[at..at + 4].copy_from_slice(&word.to_be_bytes());
 }
 
 /// A refusal with detail 0.

@@ -1,7 +1,7 @@
 //! Inputs drawn from a fixed sequence: no call panics, and a refused call changes no
 //! byte.
 
-use crate::image::{dump, put, Image};
+use crate::image::{dump, put_sheet, Image, FORMS};
 use reference::*;
 
 /// A fixed sequence of numbers.
@@ -30,26 +30,30 @@ impl Sequence {
 }
 
 /// Words that mean something in the dump.
-const WORDS: [u32; 16] = [
-    0, 1, 0x139d, 0x1789, 0xfeedface, 0xbbedface, 0xdeadbeef, 0x70a9add8, 0x70a9ae00, 0x70a9ae28,
-    0x70ae31a0, 0x70ae3200, 0x70ae3260, 0x8440c68e, 0xd1befaed, 0xffffffff,
+const WORDS: [u32; 17] = [
+    0, 1, 0x139d, 0x1789, 0xfeedface, 0xbbedface, 0xfeedfabb, 0xdeadbeef, 0x70a9add8, 0x70a9ae00,
+    0x70a9ae28, 0x70ae31a0, 0x70ae3200, 0x70ae3260, 0x8440c68e, 0xd1befaed, 0xffffffff,
 ];
 
-/// The dump with a few words and bytes changed, and now and then an area cut.
+/// The dump in some form with a few words and bytes changed, and now and then an area
+/// cut.
 fn some_image(sequence: &mut Sequence) -> Image {
-    let mut image = dump();
+    let mut image = dump(FORMS[sequence.below(3) as usize]);
     for _ in 0..sequence.below(5) {
-        let word = WORDS[sequence.below(16) as usize];
+        let word = WORDS[sequence.below(17) as usize];
         match sequence.below(12) {
-            0..=3 => put(&mut image.heap, 4 * sequence.below(30) as usize, word),
-            4..=7 => put(&mut image.records, 4 * sequence.below(72) as usize, word),
-            8..=9 => put(&mut image.sheet, 39, word),
-            10 => image.sheet[sequence.below(48) as usize] = sequence.byte(),
+            0..=3 => image.put_heap(4 * sequence.below(30) as usize, word),
+            4..=7 => image.put_record(4 * sequence.below(72) as usize, word),
+            8..=9 => put_sheet(&mut image.sheet, 39, word),
+            10 => {
+                let at = sequence.below(image.sheet.len() as u32) as usize;
+                image.sheet[at] = sequence.byte();
+            }
             _ => image.heap[sequence.below(120) as usize] = sequence.byte(),
         }
     }
     match sequence.below(20) {
-        0 => image.sheet.truncate(sequence.below(48) as usize),
+        0 => image.sheet.truncate(sequence.below(52) as usize),
         1 => image.heap.truncate(sequence.below(120) as usize),
         2 => image.records.truncate(sequence.below(288) as usize),
         _ => {}
@@ -62,7 +66,7 @@ fn some_word(sequence: &mut Sequence) -> u32 {
     match sequence.below(4) {
         0 => sequence.word(),
         1 => sequence.below(30),
-        _ => WORDS[sequence.below(16) as usize],
+        _ => WORDS[sequence.below(17) as usize],
     }
 }
 
@@ -85,13 +89,16 @@ fn a_changing_call_refuses_or_changes_but_not_both() {
             sheet,
             heap,
             records,
+            ..
         } = &mut image;
         let grant = some_grant(&mut sequence);
         let address = some_word(&mut sequence);
+        // A byte the heap has not, so that an accepted store changes it.
+        let byte = (0..=255).find(|byte| !heap.contains(byte)).unwrap();
         let answer = match sequence.below(3) {
             0 => allocate(sheet, heap, records, grant, 1, 2).map(|_| ()),
             1 => free(sheet, heap, records, address, grant, 1, 2),
-            _ => store(sheet, heap, records, address, sequence.below(20), &[0x77]),
+            _ => store(sheet, heap, records, address, sequence.below(20), &[byte]),
         };
         assert_eq!(answer.is_err(), image == before);
         refusals += usize::from(answer.is_err());
@@ -133,13 +140,13 @@ fn latest_names_a_row_or_record_there_is() {
     for _ in 0..20_000 {
         let image = some_image(&mut sequence);
         let words: Vec<u32> = (0..8).map(|_| some_word(&mut sequence)).collect();
-        let log = crate::image::words(&words);
+        let log = image.form.words(&words);
         let index = sequence.below(4);
         let now = some_word(&mut sequence);
         match latest(&image.sheet, &image.heap, &image.records, &log, index, now) {
             Ok(Latest::Row(row)) => {
                 let names_a_record = [0x70ae31a0, 0x70ae3200, 0x70ae3260].contains(&words[4 * row]);
-                assert!(names_a_record || image.sheet != dump().sheet);
+                assert!(names_a_record || image.sheet != dump(image.form).sheet);
                 rows_found += 1;
             }
             Ok(Latest::Record(record)) => assert!(record < 3),

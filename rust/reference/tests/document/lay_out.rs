@@ -1,22 +1,25 @@
 //! Lay out: the bytes it writes and what it refuses.
 
-use crate::image::{refused, words, Image};
-use reference::{lay_out, Refusal};
+use crate::image::{refused, Form, Image, FORMS, LONG_FORMS};
+use reference::{lay_out, sheet_order, Refusal};
 
 /// Lays out over areas full of 0x5a, with the answer.
 fn laid(
+    form: Form,
     numbers: [u32; 5],
     sheet_length: usize,
     heap_length: usize,
     record_length: usize,
 ) -> (Image, Result<(), Refusal>) {
     let mut image = Image {
+        form,
         sheet: vec![0x5a; sheet_length],
         heap: vec![0x5a; heap_length],
         records: vec![0x5a; record_length],
     };
     let [cache, heap_base, record_base, size, count] = numbers;
     let answer = lay_out(
+        form.order(),
         cache,
         heap_base,
         record_base,
@@ -29,57 +32,91 @@ fn laid(
     (image, answer)
 }
 
-/// Expects a refusal that leaves every byte.
+/// Expects a refusal in either order that leaves every byte.
 fn refuses(numbers: [u32; 5], lengths: [usize; 3], number: u8) {
-    let (image, answer) = laid(numbers, lengths[0], lengths[1], lengths[2]);
-    assert_eq!(answer, refused(number), "{numbers:x?} {lengths:?}");
-    let bytes = [image.sheet, image.heap, image.records].concat();
-    assert!(bytes.iter().all(|byte| *byte == 0x5a));
+    for form in FORMS {
+        let (image, answer) = laid(form, numbers, lengths[0], lengths[1], lengths[2]);
+        assert_eq!(answer, refused(number), "{numbers:x?} {lengths:?}");
+        let bytes = [image.sheet, image.heap, image.records].concat();
+        assert!(bytes.iter().all(|byte| *byte == 0x5a));
+    }
 }
 
 const DUMP: [u32; 5] = [0x70039928, 0x70a9add8, 0x70ae31a0, 24, 3];
 
 #[test]
 fn three_buffers_of_8_byte_for_byte() {
-    let (image, answer) = laid([0x11223344, 0x1000, 0x2000, 8, 3], 48, 72, 288);
+    for form in LONG_FORMS {
+        let (image, answer) = laid(form, [0x11223344, 0x1000, 0x2000, 8, 3], 52, 72, 288);
+        assert_eq!(answer, Ok(()));
+        #[rustfmt::skip]
+        let sheet = [
+            1, 0, 4, 0x11, 0x22, 0x33, 0x44,
+            2, 0, 4, 0, 0, 0x10, 0,
+            3, 0, 4, 0, 0, 0x20, 0,
+            4, 0, 2, 0, 8,
+            5, 0, 2, 0, 24,
+            6, 0, 2, 0, 3,
+            7, 0, 4, 0, 0, 0x20, 0,
+            8, 0, 2, 2, 0x0f,
+            9, 0, 1, form.pick(0, 1),
+        ];
+        assert_eq!(image.sheet, sheet);
+        #[rustfmt::skip]
+        let heap = form.words(&[
+            0xdeadbeef, 0xdeadbeef, 0xfeedface, 0xfeedface, 0x00002000, 0xf4eed4ee,
+            0xdeadbeef, 0xdeadbeef, 0xfeedface, 0xfeedface, 0x00002060, 0xf4eed48e,
+            0xdeadbeef, 0xdeadbeef, 0xfeedface, 0xfeedface, 0x000020c0, 0xf4eed42e,
+        ]);
+        assert_eq!(image.heap, heap);
+        let mut records = [[0; 24]; 3];
+        records[0][..4].copy_from_slice(&[0x2060, 0x1000, 0, 0x11223344]);
+        records[1][..4].copy_from_slice(&[0x20c0, 0x1018, 0, 0x11223344]);
+        records[2][..4].copy_from_slice(&[0, 0x1030, 0, 0x11223344]);
+        assert_eq!(image.records, form.words(records.as_flattened()));
+        assert_eq!(sheet_order(&image.sheet), Ok(form.order()));
+    }
+}
+
+/// The first chunk and the first record of two, byte for byte with the low byte first.
+#[test]
+fn two_buffers_of_8_with_the_low_byte_first() {
+    let (image, answer) = laid(Form::Low, [0x11223344, 0x1000, 0x2000, 8, 2], 52, 48, 192);
     assert_eq!(answer, Ok(()));
+    // 0x2000 xor 0xf4eef4ee = 0xf4eed4ee.
     #[rustfmt::skip]
-    let sheet = [
-        1, 0, 4, 0x11, 0x22, 0x33, 0x44,
-        2, 0, 4, 0, 0, 0x10, 0,
-        3, 0, 4, 0, 0, 0x20, 0,
-        4, 0, 2, 0, 8,
-        5, 0, 2, 0, 24,
-        6, 0, 2, 0, 3,
-        7, 0, 4, 0, 0, 0x20, 0,
-        8, 0, 2, 2, 0x0f,
+    let chunk = [
+        0xef, 0xbe, 0xad, 0xde, 0xef, 0xbe, 0xad, 0xde,
+        0xce, 0xfa, 0xed, 0xfe, 0xce, 0xfa, 0xed, 0xfe,
+        0x00, 0x20, 0x00, 0x00, 0xee, 0xd4, 0xee, 0xf4,
     ];
-    assert_eq!(image.sheet, sheet);
+    assert_eq!(image.heap[..24], chunk);
     #[rustfmt::skip]
-    let heap = words(&[
-        0xdeadbeef, 0xdeadbeef, 0xfeedface, 0xfeedface, 0x00002000, 0xf4eed4ee,
-        0xdeadbeef, 0xdeadbeef, 0xfeedface, 0xfeedface, 0x00002060, 0xf4eed48e,
-        0xdeadbeef, 0xdeadbeef, 0xfeedface, 0xfeedface, 0x000020c0, 0xf4eed42e,
-    ]);
-    assert_eq!(image.heap, heap);
-    let mut records = [[0; 24]; 3];
-    records[0][..4].copy_from_slice(&[0x2060, 0x1000, 0, 0x11223344]);
-    records[1][..4].copy_from_slice(&[0x20c0, 0x1018, 0, 0x11223344]);
-    records[2][..4].copy_from_slice(&[0, 0x1030, 0, 0x11223344]);
-    assert_eq!(image.records, words(records.as_flattened()));
+    let record = [
+        0x60, 0x20, 0x00, 0x00, 0x00, 0x10, 0x00, 0x00,
+        0x00, 0x00, 0x00, 0x00, 0x44, 0x33, 0x22, 0x11,
+    ];
+    assert_eq!(image.records[..16], record);
+    assert_eq!(image.records[16..96], [0; 80]);
+    // The head in the sheet stays big-endian.
+    assert_eq!(image.sheet[36..43], [7, 0, 4, 0, 0, 0x20, 0]);
 }
 
 #[test]
 fn areas_that_end_at_2_to_the_32() {
-    assert_eq!(laid([0, 0xffff_ff88, 8, 24, 3], 48, 120, 288).1, Ok(()));
-    assert_eq!(laid([0, 8, 0xffff_fee0, 24, 3], 48, 120, 288).1, Ok(()));
-    refuses([0, 0xffff_ff90, 8, 24, 3], [48, 120, 288], 2);
-    refuses([0, 8, 0xffff_fee8, 24, 3], [48, 120, 288], 2);
+    for form in LONG_FORMS {
+        let (_, heap_last) = laid(form, [0, 0xffff_ff88, 8, 24, 3], 52, 120, 288);
+        assert_eq!(heap_last, Ok(()));
+        let (_, records_last) = laid(form, [0, 8, 0xffff_fee0, 24, 3], 52, 120, 288);
+        assert_eq!(records_last, Ok(()));
+    }
+    refuses([0, 0xffff_ff90, 8, 24, 3], [52, 120, 288], 2);
+    refuses([0, 8, 0xffff_fee8, 24, 3], [52, 120, 288], 2);
 }
 
 #[test]
 fn refusal_1_by_the_sheet_areas_length() {
-    for length in [0, 47, 49] {
+    for length in [0, 47, 48, 49, 51, 53, 104] {
         refuses(DUMP, [length, 120, 288], 1);
         refuses([0; 5], [length, 0, 0], 1);
     }
@@ -93,28 +130,28 @@ fn refusal_2_on_arguments() {
         numbers
     };
     for base in [0, 4, 0x70a9addc, 0xffff_fff8] {
-        refuses(with(1, base), [48, 120, 288], 2);
-        refuses(with(2, base), [48, 120, 288], 2);
+        refuses(with(1, base), [52, 120, 288], 2);
+        refuses(with(2, base), [52, 120, 288], 2);
     }
     for size in [0, 4, 25, 4104, 0x1_0018, 0xffff_fff0, 0xffff_fff8, u32::MAX] {
-        refuses(with(3, size), [48, 120, 288], 2);
+        refuses(with(3, size), [52, 120, 288], 2);
     }
     for count in [0, 513, 0x1_0003, 0x8000_0003, u32::MAX] {
-        refuses(with(4, count), [48, 120, 288], 2);
+        refuses(with(4, count), [52, 120, 288], 2);
     }
     // 482 chunks of 136 bytes are 65,552 bytes; the two bases are equal.
-    refuses([0, 0x10_0000, 0x20_0000, 120, 482], [48, 65_552, 46_272], 2);
-    refuses(with(1, 0x70ae31a0), [48, 120, 288], 2);
+    refuses([0, 0x10_0000, 0x20_0000, 120, 482], [52, 65_552, 46_272], 2);
+    refuses(with(1, 0x70ae31a0), [52, 120, 288], 2);
 }
 
 #[test]
 fn refusal_2_comes_before_3() {
-    refuses([0; 5], [48, 1, 1], 2);
+    refuses([0; 5], [52, 1, 1], 2);
 }
 
 #[test]
 fn refusal_3_on_areas_of_wrong_length() {
     for (heap_length, record_length) in [(119, 288), (121, 288), (120, 287), (120, 289), (0, 0)] {
-        refuses(DUMP, [48, heap_length, record_length], 3);
+        refuses(DUMP, [52, heap_length, record_length], 3);
     }
 }

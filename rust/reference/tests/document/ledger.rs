@@ -1,7 +1,7 @@
 //! Long lists of calls on a fresh heap, against a ledger kept from the calls'
 //! arguments and answers.
 
-use crate::image::{refused, Image};
+use crate::image::{blank, refused, Form, Image, LONG_FORMS};
 use crate::inputs::Sequence;
 use reference::*;
 
@@ -24,13 +24,11 @@ struct Heap {
 }
 
 impl Heap {
-    fn fresh(size: u32, count: u32) -> Heap {
-        let mut image = Image {
-            sheet: vec![0; 48],
-            heap: vec![0; (count * (size + 16)) as usize],
-            records: vec![0; (count * 96) as usize],
-        };
+    fn fresh(form: Form, size: u32, count: u32) -> Heap {
+        let heap_length = count * (size + 16);
+        let mut image = blank(form, heap_length as usize, count as usize * 96);
         lay_out(
+            form.order(),
             7,
             HEAP_BASE,
             RECORD_BASE,
@@ -59,6 +57,7 @@ impl Heap {
             sheet,
             heap,
             records,
+            ..
         } = &mut self.image;
         let answer = allocate(sheet, heap, records, grant, 1, 2);
         if self.out.iter().all(Option::is_some) {
@@ -73,8 +72,11 @@ impl Heap {
             Grant::Whole => self.size,
             Grant::Sized(s) => s,
         };
-        let client = [0xba, 0xdd, 0xca, 0xfe].into_iter().cycle();
-        let client = client.take(length as usize).collect();
+        let fill = self
+            .image
+            .form
+            .pick([0xba, 0xdd, 0xca, 0xfe], [0xfe, 0xca, 0xdd, 0xba]);
+        let client = fill.into_iter().cycle().take(length as usize).collect();
         self.out[index] = Some(Out { grant, client });
     }
 
@@ -84,6 +86,7 @@ impl Heap {
             sheet,
             heap,
             records,
+            ..
         } = &mut self.image;
         let answer = free(sheet, heap, records, address, grant, 3, 4);
         match &self.out[index] {
@@ -104,6 +107,7 @@ impl Heap {
             sheet,
             heap,
             records,
+            ..
         } = &mut self.image;
         let answer = store(sheet, heap, records, address, offset as u32, bytes);
         match &mut self.out[index] {
@@ -125,6 +129,7 @@ impl Heap {
             sheet,
             heap,
             records,
+            ..
         } = &self.image;
         let mut rows = vec![Finding::default(); self.count as usize];
         inspect(sheet, heap, records, &mut rows).unwrap();
@@ -156,9 +161,9 @@ fn some_grant(sequence: &mut Sequence, size: u32) -> Grant {
     }
 }
 
-fn run(size: u32, count: u32, seed: u64) {
+fn run(form: Form, size: u32, count: u32, seed: u64) {
     let mut sequence = Sequence::new(seed);
-    let mut heap = Heap::fresh(size, count);
+    let mut heap = Heap::fresh(form, size, count);
     heap.check();
     for _ in 0..300 {
         let index = sequence.below(count) as usize;
@@ -185,9 +190,11 @@ fn run(size: u32, count: u32, seed: u64) {
 
 #[test]
 fn calls_agree_with_the_ledger() {
-    run(8, 1, 1);
-    run(8, 5, 2);
-    run(24, 3, 3);
-    run(120, 9, 4);
-    run(4096, 2, 5);
+    for form in LONG_FORMS {
+        run(form, 8, 1, 1);
+        run(form, 8, 5, 2);
+        run(form, 24, 3, 3);
+        run(form, 120, 9, 4);
+        run(form, 4096, 2, 5);
+    }
 }

@@ -9,6 +9,7 @@ mod inputs;
 mod latest;
 mod lay_out;
 mod ledger;
+mod low_first;
 mod program;
 mod refusals;
 mod report;

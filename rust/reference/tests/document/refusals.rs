@@ -11,6 +11,7 @@ fn numbers(image: &Image) -> [u8; 8] {
         sheet,
         heap,
         records,
+        ..
     } = &mut changed;
     let answers = [
         chain(sheet, heap, records).map(|_| ()),
@@ -32,32 +33,67 @@ fn numbers(image: &Image) -> [u8; 8] {
 
 #[test]
 fn refusal_1_comes_first() {
-    let mut image = dump();
-    image.sheet[0] = 9;
-    put(&mut image.sheet, 10, 0);
-    image.heap.clear();
-    assert_eq!(numbers(&image), [1; 8]);
+    for form in FORMS {
+        let mut image = dump(form);
+        image.sheet[0] = 9;
+        put_sheet(&mut image.sheet, 10, 0);
+        image.heap.clear();
+        assert_eq!(numbers(&image), [1; 8]);
+    }
 }
 
 #[test]
 fn refusal_2_comes_before_3() {
-    let mut image = dump();
-    put(&mut image.sheet, 10, 0);
-    image.heap.clear();
-    assert_eq!(numbers(&image), [2; 8]);
+    for form in FORMS {
+        let mut image = dump(form);
+        put_sheet(&mut image.sheet, 10, 0);
+        image.heap.clear();
+        assert_eq!(numbers(&image), [2; 8]);
+    }
+}
+
+#[test]
+fn refusal_2_by_the_value_of_tag_9_comes_before_3() {
+    for form in LONG_FORMS {
+        for value in [2, 3, 0x80, 255] {
+            let mut image = dump(form);
+            image.sheet[51] = value;
+            assert_eq!(numbers(&image), [2; 8]);
+            image.heap.clear();
+            assert_eq!(numbers(&image), [2; 8]);
+        }
+    }
+}
+
+#[test]
+fn refusal_1_by_neither_form() {
+    for form in FORMS {
+        for length in [0, 47, 49, 51, 53] {
+            let mut image = dump(form);
+            image.sheet.resize(length, 0);
+            assert_eq!(numbers(&image), [1; 8]);
+        }
+    }
+    for field in [[10, 0, 1, 0], [9, 0, 2, 0], [9, 1, 1, 1], [0, 0, 0, 0]] {
+        let mut image = dump(Form::Short);
+        image.sheet.extend(field);
+        assert_eq!(numbers(&image), [1; 8]);
+    }
 }
 
 #[test]
 fn refusal_3_comes_before_the_rest() {
-    for change in [-1, 1] {
-        let mut image = dump();
-        image.heap.resize(120usize.wrapping_add_signed(change), 0);
-        assert_eq!(numbers(&image), [3; 8]);
+    for form in FORMS {
+        for change in [-1, 1] {
+            let mut image = dump(form);
+            image.heap.resize(120usize.wrapping_add_signed(change), 0);
+            assert_eq!(numbers(&image), [3; 8]);
 
-        let mut image = dump();
-        image
-            .records
-            .resize(288usize.wrapping_add_signed(change), 0);
-        assert_eq!(numbers(&image), [3; 8]);
+            let mut image = dump(form);
+            image
+                .records
+                .resize(288usize.wrapping_add_signed(change), 0);
+            assert_eq!(numbers(&image), [3; 8]);
+        }
     }
 }

@@ -1,7 +1,9 @@
-//! Refusals 1 and 2: the sheet's shape and its limits, on both sides of each.
+//! Refusals 1 and 2: the sheet's two forms and its limits, on both sides of each.
 
-use crate::image::{dump, refused, RECORD};
-use reference::{area_lengths, chain, Chain, Ending};
+use crate::image::{dump, put_sheet, refused, Form, FORMS, LONG_FORMS, RECORD};
+use reference::{
+    area_lengths, chain, sheet_order, Chain, Ending, Order, SHEET_LENGTH, SHORT_SHEET_LENGTH,
+};
 
 /// The numbers of a sheet, of which each case changes a few.
 #[derive(Clone, Copy)]
@@ -28,7 +30,7 @@ const PLAIN: Numbers = Numbers {
     flags: 0x020f,
 };
 
-fn sheet(numbers: Numbers) -> Vec<u8> {
+fn sheet(form: Form, numbers: Numbers) -> Vec<u8> {
     let mut bytes = Vec::new();
     bytes.extend([1, 0, 4]);
     bytes.extend(numbers.cache.to_be_bytes());
@@ -46,53 +48,165 @@ fn sheet(numbers: Numbers) -> Vec<u8> {
     bytes.extend(numbers.head.to_be_bytes());
     bytes.extend([8, 0, 2]);
     bytes.extend(numbers.flags.to_be_bytes());
+    bytes.extend(form.last_field());
     bytes
 }
 
+/// Accepted in every form, and its order found.
 fn accepts(numbers: Numbers, heap_length: usize, record_length: usize) {
-    let sheet = sheet(numbers);
-    assert_eq!(area_lengths(&sheet), Ok((heap_length, record_length)));
-    let heap = vec![0; heap_length];
-    let records = vec![0; record_length];
-    assert!(chain(&sheet, &heap, &records).is_ok());
+    for form in FORMS {
+        let sheet = sheet(form, numbers);
+        assert_eq!(area_lengths(&sheet), Ok((heap_length, record_length)));
+        assert_eq!(sheet_order(&sheet), Ok(form.order()));
+        let heap = vec![0; heap_length];
+        let records = vec![0; record_length];
+        assert!(chain(&sheet, &heap, &records).is_ok());
+    }
 }
 
+/// Refusal 2 in every form.
 fn refuses(numbers: Numbers) {
-    assert_eq!(area_lengths(&sheet(numbers)), refused(2));
-    assert_eq!(chain(&sheet(numbers), &[], &[]), refused(2));
+    for form in FORMS {
+        let sheet = sheet(form, numbers);
+        assert_eq!(area_lengths(&sheet), refused(2));
+        assert_eq!(sheet_order(&sheet), refused(2));
+        assert_eq!(chain(&sheet, &[], &[]), refused(2));
+    }
+}
+
+/// Refusal 1 of a sheet, by every way to read it.
+fn has_neither_form(sheet: &[u8]) {
+    assert_eq!(area_lengths(sheet), refused(1), "{sheet:?}");
+    assert_eq!(sheet_order(sheet), refused(1));
+    assert_eq!(chain(sheet, &[0; 120], &[0; 288]), refused(1));
 }
 
 #[test]
-fn every_tag_and_length_byte_is_tested() {
-    let image = dump();
-    let tag_and_length_bytes = [
-        0, 1, 2, 7, 8, 9, 14, 15, 16, 21, 22, 23, 26, 27, 28, 31, 32, 33, 36, 37, 38, 43, 44, 45,
-    ];
-    for at in tag_and_length_bytes {
-        let mut sheet = image.sheet.clone();
-        sheet[at] ^= 0x10;
-        let answer = chain(&sheet, &image.heap, &image.records);
-        assert_eq!(answer, refused(1), "byte {at}");
+fn the_two_lengths() {
+    assert_eq!((SHEET_LENGTH, SHORT_SHEET_LENGTH), (52, 48));
+    assert_eq!(FORMS.map(|form| dump(form).sheet.len()), [48, 52, 52]);
+}
+
+#[test]
+fn order_of_each_form() {
+    assert_eq!(sheet_order(&dump(Form::Short).sheet), Ok(Order::HighFirst));
+    assert_eq!(sheet_order(&dump(Form::High).sheet), Ok(Order::HighFirst));
+    assert_eq!(sheet_order(&dump(Form::Low).sheet), Ok(Order::LowFirst));
+}
+
+#[test]
+fn tag_9_is_0_or_1() {
+    for value in 0..=255 {
+        let mut sheet = dump(Form::Short).sheet;
+        sheet.extend([9, 0, 1, value]);
+        let expected = match value {
+            0 => Ok(Order::HighFirst),
+            1 => Ok(Order::LowFirst),
+            _ => refused(2),
+        };
+        assert_eq!(sheet_order(&sheet), expected, "{value}");
+        assert_eq!(area_lengths(&sheet), expected.map(|_| (120, 288)));
     }
 }
 
 #[test]
-fn sheet_of_another_length_is_refused() {
-    let image = dump();
-    let mut longer = image.sheet.clone();
-    longer.push(0);
-    for sheet in [&image.sheet[..0], &image.sheet[..47], &longer] {
-        assert_eq!(chain(sheet, &image.heap, &image.records), refused(1));
+fn another_tag_or_length_in_the_place_of_tag_9() {
+    let fields = [
+        [0, 0, 0, 0],
+        [0, 0, 1, 0],
+        [8, 0, 1, 0],
+        [10, 0, 1, 1],
+        [0xff, 0, 1, 0],
+        [9, 0, 0, 0],
+        [9, 0, 2, 0],
+        [9, 1, 1, 0],
+        [9, 1, 0, 1],
+        [1, 0, 9, 0],
+        [0xde, 0xad, 0xbe, 0xef],
+        [0xef, 0xbe, 0xad, 0xde],
+    ];
+    for field in fields {
+        has_neither_form(&[&dump(Form::Short).sheet[..], &field[..]].concat());
+    }
+}
+
+#[test]
+fn tag_9_before_tag_8() {
+    for form in LONG_FORMS {
+        let sheet = dump(form).sheet;
+        has_neither_form(&[&sheet[..43], &sheet[48..], &sheet[43..48]].concat());
+    }
+}
+
+#[test]
+fn tag_9_without_tag_8() {
+    for form in LONG_FORMS {
+        let sheet = dump(form).sheet;
+        has_neither_form(&[&sheet[..43], &sheet[48..]].concat());
+    }
+}
+
+#[test]
+fn refusal_1_comes_before_the_value_of_tag_9() {
+    let mut sheet = dump(Form::Low).sheet;
+    sheet[51] = 2;
+    sheet[0] = 2;
+    has_neither_form(&sheet);
+}
+
+#[test]
+fn bad_value_of_tag_9_with_another_number_out_of_its_limit() {
+    let mut sheet = dump(Form::Low).sheet;
+    sheet[51] = 2;
+    put_sheet(&mut sheet, 10, 0);
+    assert_eq!(sheet_order(&sheet), refused(2));
+}
+
+#[test]
+fn sheet_of_another_length() {
+    for form in FORMS {
+        let long = [dump(form).sheet, vec![0; 260]].concat();
+        for length in (0..=300).filter(|length| ![48, 52].contains(length)) {
+            has_neither_form(&long[..length]);
+        }
+    }
+    // A whole 52-byte sheet with bytes after it, and one without its last byte.
+    for length in [0, 47, 49, 51, 53] {
+        let long = [dump(Form::Low).sheet, vec![0]].concat();
+        has_neither_form(&long[..length]);
+    }
+    // The first 48 bytes of a 52-byte sheet are the short form.
+    let first = &dump(Form::Low).sheet[..48];
+    assert_eq!(sheet_order(first), Ok(Order::HighFirst));
+}
+
+#[test]
+fn every_tag_and_length_byte_is_tested() {
+    let tag_and_length_bytes = [
+        0, 1, 2, 7, 8, 9, 14, 15, 16, 21, 22, 23, 26, 27, 28, 31, 32, 33, 36, 37, 38, 43, 44, 45,
+        48, 49, 50,
+    ];
+    for form in FORMS {
+        let sheet = dump(form).sheet;
+        for at in tag_and_length_bytes {
+            if at < sheet.len() {
+                let mut changed = sheet.clone();
+                changed[at] ^= 0x10;
+                has_neither_form(&changed);
+            }
+        }
     }
 }
 
 #[test]
 fn tags_out_of_order_are_refused() {
-    let image = dump();
-    let mut sheet = image.sheet[7..14].to_vec();
-    sheet.extend(&image.sheet[..7]);
-    sheet.extend(&image.sheet[14..]);
-    assert_eq!(chain(&sheet, &image.heap, &image.records), refused(1));
+    for form in FORMS {
+        let image = dump(form);
+        let mut sheet = image.sheet[7..14].to_vec();
+        sheet.extend(&image.sheet[..7]);
+        sheet.extend(&image.sheet[14..]);
+        assert_eq!(chain(&sheet, &image.heap, &image.records), refused(1));
+    }
 }
 
 #[test]
@@ -233,16 +347,21 @@ fn cache_and_head_may_be_any_number() {
 
 #[test]
 fn last_record_may_end_at_2_to_the_32() {
-    let numbers = Numbers {
-        record_base: 0xffff_fee0,
-        head: 0xffff_ffa0,
-        ..PLAIN
-    };
-    let mut records = vec![0; 288];
-    records[RECORD[2]..RECORD[2] + 4].copy_from_slice(&0xffff_fee0u32.to_be_bytes());
-    let expected = Chain {
-        met: vec![2, 0],
-        ending: Ending::End,
-    };
-    assert_eq!(chain(&sheet(numbers), &[0; 120], &records), Ok(expected));
+    for form in FORMS {
+        let numbers = Numbers {
+            record_base: 0xffff_fee0,
+            head: 0xffff_ffa0,
+            ..PLAIN
+        };
+        let mut records = vec![0; 288];
+        form.put(&mut records, RECORD[2], 0xffff_fee0);
+        let expected = Chain {
+            met: vec![2, 0],
+            ending: Ending::End,
+        };
+        assert_eq!(
+            chain(&sheet(form, numbers), &[0; 120], &records),
+            Ok(expected)
+        );
+    }
 }

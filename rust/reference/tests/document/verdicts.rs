@@ -1,4 +1,4 @@
-//! Verdicts 0 to 28 and the checks P1 to P10.
+//! Verdicts 0 to 28 and the checks P1 to P10, in both orders.
 
 use crate::image::*;
 use reference::{inspect, Finding, Verdict};
@@ -19,243 +19,323 @@ fn verdicts(image: &Image) -> [(u32, u32); 3] {
 }
 
 /// The dump with one word of its heap changed.
-fn dump_with_heap_word(at: usize, word: u32) -> Image {
-    let mut image = dump();
-    put(&mut image.heap, at, word);
+fn dump_with_heap_word(form: Form, at: usize, word: u32) -> Image {
+    let mut image = dump(form);
+    image.put_heap(at, word);
     image
 }
 
 /// The verdict on the dump's buffer 1, of the allocated pattern, with these redzone
 /// words.
-fn allocated_with(r0: u32, r1: u32) -> (u32, u32) {
-    verdicts(&dump_with_redzone(r0, r1))[1]
+fn allocated_with(form: Form, r0: u32, r1: u32) -> (u32, u32) {
+    verdicts(&dump_with_redzone(form, r0, r1))[1]
 }
 
 #[test]
 fn dump_has_free_allocated_20_free() {
-    assert_eq!(verdicts(&dump()), [(0, 0), (2, 20), (0, 0)]);
+    for form in FORMS {
+        assert_eq!(verdicts(&dump(form)), [(0, 0), (2, 20), (0, 0)]);
+    }
 }
 
 #[test]
 fn p1_free_pattern() {
-    let image = dump();
-    assert_eq!(
-        image.heap[CHUNK[0] + T0..][..8],
-        words(&[0x70ae3260, 0x8440c68e])
-    );
-    assert_eq!(verdicts(&image)[0], (0, 0));
+    for form in FORMS {
+        let image = dump(form);
+        assert_eq!(
+            image.heap[CHUNK[0] + T0..][..8],
+            form.words(&[0x70ae3260, 0x8440c68e])
+        );
+        assert_eq!(verdicts(&image)[0], (0, 0));
+    }
 }
 
 #[test]
 fn p2_allocated_pattern() {
-    let image = dump();
-    assert_eq!(
-        image.heap[CHUNK[1] + T0..][..8],
-        words(&[0x70ae3200, 0xd1befaed])
-    );
-    assert_eq!(verdicts(&image)[1], (2, 20));
+    for form in FORMS {
+        let image = dump(form);
+        assert_eq!(
+            image.heap[CHUNK[1] + T0..][..8],
+            form.words(&[0x70ae3200, 0xd1befaed])
+        );
+        assert_eq!(verdicts(&image)[1], (2, 20));
+    }
 }
 
 #[test]
 fn p3_neither_pattern() {
-    let image = dump_with_heap_word(CHUNK[0] + T1, 0x8440c68f);
-    assert_eq!(verdicts(&image), [(21, 0), (2, 20), (0, 0)]);
+    for form in FORMS {
+        let image = dump_with_heap_word(form, CHUNK[0] + T1, 0x8440c68f);
+        assert_eq!(verdicts(&image), [(21, 0), (2, 20), (0, 0)]);
+    }
 }
 
 #[test]
 fn p4_to_p9_redzone_words_of_the_allocated_pattern() {
-    assert_eq!(allocated_with(0xfeedface, 0x139d), (2, 20), "P4");
-    assert_eq!(allocated_with(0xfeedface, 0x139e), (27, 0), "P5");
-    assert_eq!(allocated_with(0xfeedface, 1), (27, 0), "P6");
-    assert_eq!(allocated_with(0xbbedface, 0x1789), (2, 24), "P7");
-    assert_eq!(allocated_with(0xfeedface, 0x1884), (27, 0), "P8");
-    assert_eq!(allocated_with(0x00edface, 0xfeedface), (28, 24), "P9");
+    for form in FORMS {
+        assert_eq!(allocated_with(form, 0xfeedface, 0x139d), (2, 20), "P4");
+        assert_eq!(allocated_with(form, 0xfeedface, 0x139e), (27, 0), "P5");
+        assert_eq!(allocated_with(form, 0xfeedface, 1), (27, 0), "P6");
+        assert_eq!(allocated_with(form, full_r0(form), 0x1789), (2, 24), "P7");
+        assert_eq!(allocated_with(form, 0xfeedface, 0x1884), (27, 0), "P8");
+        // The word's high byte stands at 24 or, where the low byte stands first, at 27.
+        let p9 = allocated_with(form, 0x00edface, 0xfeedface);
+        assert_eq!(p9, (28, form.pick(24, 27)), "P9");
+    }
 }
 
 #[test]
 fn p10_byte_9_of_a_free_buffer() {
-    let mut image = dump();
-    image.heap[CHUNK[0] + 9] = 0;
-    assert_eq!(verdicts(&image), [(25, 9), (2, 20), (0, 0)]);
+    for form in FORMS {
+        let mut image = dump(form);
+        image.heap[CHUNK[0] + 9] = 0;
+        assert_eq!(verdicts(&image), [(25, 9), (2, 20), (0, 0)]);
+    }
 }
 
 #[test]
 fn verdict_1_whole() {
-    assert_eq!(allocated_with(0xfeedface, 0xfeedface), (1, 0));
+    for form in FORMS {
+        assert_eq!(allocated_with(form, 0xfeedface, 0xfeedface), (1, 0));
+    }
 }
 
 #[test]
 fn verdict_2_smallest_size() {
-    // 251 * 1 + 1 = 252 = 0xfc.
-    let mut image = dump_with_heap_word(CHUNK[1] + R1, 0xfc);
-    image.heap[CHUNK[1] + 1] = 0xbb;
-    assert_eq!(verdicts(&image)[1], (2, 1));
+    for form in FORMS {
+        // 251 * 1 + 1 = 252 = 0xfc.
+        let mut image = dump_with_heap_word(form, CHUNK[1] + R1, 0xfc);
+        image.heap[CHUNK[1] + 1] = 0xbb;
+        assert_eq!(verdicts(&image)[1], (2, 1));
+    }
 }
 
 #[test]
 fn verdict_20_no_record_names_the_buffer() {
-    for address in [0, BUFFER_2 + 4, BUFFER_2 + 40, BUFFER_0 - 40] {
-        let mut image = dump();
-        put(&mut image.records, RECORD[0] + ADDRESS, address);
-        assert_eq!(verdicts(&image), [(0, 0), (2, 20), (20, 0)]);
+    for form in FORMS {
+        for address in [0, BUFFER_2 + 4, BUFFER_2 + 40, BUFFER_0 - 40] {
+            let mut image = dump(form);
+            image.put_record(RECORD[0] + ADDRESS, address);
+            assert_eq!(verdicts(&image), [(0, 0), (2, 20), (20, 0)]);
+        }
     }
 }
 
 #[test]
 fn verdict_20_two_records_name_the_buffer() {
-    let mut image = dump();
-    put(&mut image.records, RECORD[0] + ADDRESS, BUFFER_1);
-    assert_eq!(verdicts(&image), [(0, 0), (20, 0), (20, 0)]);
+    for form in FORMS {
+        let mut image = dump(form);
+        image.put_record(RECORD[0] + ADDRESS, BUFFER_1);
+        assert_eq!(verdicts(&image), [(0, 0), (20, 0), (20, 0)]);
+    }
 }
 
 #[test]
 fn verdict_20_three_records_name_the_buffer() {
-    let mut image = dump();
-    put(&mut image.records, RECORD[0] + ADDRESS, BUFFER_0);
-    put(&mut image.records, RECORD[1] + ADDRESS, BUFFER_0);
-    assert_eq!(verdicts(&image), [(20, 0), (20, 0), (20, 0)]);
+    for form in FORMS {
+        let mut image = dump(form);
+        image.put_record(RECORD[0] + ADDRESS, BUFFER_0);
+        image.put_record(RECORD[1] + ADDRESS, BUFFER_0);
+        assert_eq!(verdicts(&image), [(20, 0), (20, 0), (20, 0)]);
+    }
 }
 
 #[test]
 fn verdict_21_sound_pattern_on_another_record() {
-    // 0x70ae3200 xor 0xf4eef4ee = 0x8440c6ee.
-    let mut image = dump();
-    put(&mut image.heap, CHUNK[0] + T0, RECORD_1);
-    put(&mut image.heap, CHUNK[0] + T1, 0x8440c6ee);
-    assert_eq!(verdicts(&image), [(21, 0), (2, 20), (0, 0)]);
+    for form in FORMS {
+        // 0x70ae3200 xor 0xf4eef4ee = 0x8440c6ee.
+        let mut image = dump(form);
+        image.put_heap(CHUNK[0] + T0, RECORD_1);
+        image.put_heap(CHUNK[0] + T1, 0x8440c6ee);
+        assert_eq!(verdicts(&image), [(21, 0), (2, 20), (0, 0)]);
+    }
 }
 
 #[test]
 fn verdict_22_free_pattern() {
-    let mut image = dump();
-    put(&mut image.records, RECORD[0] + NEXT, RECORD_2);
-    assert_eq!(verdicts(&image), [(22, 0), (2, 20), (0, 0)]);
+    for form in FORMS {
+        let mut image = dump(form);
+        image.put_record(RECORD[0] + NEXT, RECORD_2);
+        assert_eq!(verdicts(&image), [(22, 0), (2, 20), (0, 0)]);
+    }
 }
 
 #[test]
 fn verdict_22_comes_before_24_and_25() {
-    let mut image = dump_with_head(RECORD_1);
-    put(&mut image.records, RECORD[1] + NEXT, RECORD_1);
-    assert_eq!(verdicts(&image), [(23, 0), (22, 0), (23, 0)]);
+    for form in FORMS {
+        let mut image = dump_with_head(form, RECORD_1);
+        image.put_record(RECORD[1] + NEXT, RECORD_1);
+        assert_eq!(verdicts(&image), [(23, 0), (22, 0), (23, 0)]);
 
-    let mut image = dump();
-    put(&mut image.records, RECORD[0] + NEXT, RECORD_2);
-    image.heap[CHUNK[0]] = 0;
-    assert_eq!(verdicts(&image)[0], (22, 0));
+        let mut image = dump(form);
+        image.put_record(RECORD[0] + NEXT, RECORD_2);
+        image.heap[CHUNK[0]] = 0;
+        assert_eq!(verdicts(&image)[0], (22, 0));
+    }
 }
 
 #[test]
 fn verdict_21_comes_before_22() {
-    let mut image = dump_with_heap_word(CHUNK[0] + T1, 0x8440c68f);
-    put(&mut image.records, RECORD[0] + NEXT, RECORD_2);
-    assert_eq!(verdicts(&image)[0], (21, 0));
+    for form in FORMS {
+        let mut image = dump_with_heap_word(form, CHUNK[0] + T1, 0x8440c68f);
+        image.put_record(RECORD[0] + NEXT, RECORD_2);
+        assert_eq!(verdicts(&image)[0], (21, 0));
+    }
 }
 
 #[test]
 fn verdict_20_comes_before_21_and_22() {
-    let mut image = dump_with_heap_word(CHUNK[0] + T1, 0);
-    put(&mut image.records, RECORD[2] + ADDRESS, 0);
-    put(&mut image.records, RECORD[0] + NEXT, RECORD_2);
-    assert_eq!(verdicts(&image)[0], (20, 0));
+    for form in FORMS {
+        let mut image = dump_with_heap_word(form, CHUNK[0] + T1, 0);
+        image.put_record(RECORD[2] + ADDRESS, 0);
+        image.put_record(RECORD[0] + NEXT, RECORD_2);
+        assert_eq!(verdicts(&image)[0], (20, 0));
+    }
 }
 
 #[test]
 fn verdict_23_free_pattern_not_met() {
-    let mut image = dump_with_head(RECORD_0);
-    assert_eq!(verdicts(&image), [(23, 0), (2, 20), (0, 0)]);
-    image.heap[CHUNK[0]] = 0;
-    assert_eq!(verdicts(&image)[0], (23, 0), "before 25");
+    for form in FORMS {
+        let mut image = dump_with_head(form, RECORD_0);
+        assert_eq!(verdicts(&image), [(23, 0), (2, 20), (0, 0)]);
+        image.heap[CHUNK[0]] = 0;
+        assert_eq!(verdicts(&image)[0], (23, 0), "before 25");
+    }
 }
 
 #[test]
 fn verdict_24_allocated_pattern_met() {
-    let mut image = dump_with_head(RECORD_1);
-    assert_eq!(verdicts(&image), [(23, 0), (24, 0), (0, 0)]);
-    put(&mut image.heap, CHUNK[1] + R1, 0);
-    assert_eq!(verdicts(&image)[1], (24, 0), "before 27");
+    for form in FORMS {
+        let mut image = dump_with_head(form, RECORD_1);
+        assert_eq!(verdicts(&image), [(23, 0), (24, 0), (0, 0)]);
+        image.put_heap(CHUNK[1] + R1, 0);
+        assert_eq!(verdicts(&image)[1], (24, 0), "before 27");
+    }
 }
 
 #[test]
 fn verdict_25_first_differing_byte_of_the_fill() {
-    for offset in [0, 23] {
-        let mut image = dump();
-        image.heap[CHUNK[2] + offset] ^= 1;
-        image.heap[CHUNK[2] + 23] ^= 2;
-        image.heap[CHUNK[2] + R0] = 0;
-        assert_eq!(verdicts(&image)[2], (25, offset as u32), "before 26");
+    for form in FORMS {
+        for offset in [0, 23] {
+            let mut image = dump(form);
+            image.heap[CHUNK[2] + offset] ^= 1;
+            image.heap[CHUNK[2] + 23] ^= 2;
+            image.heap[CHUNK[2] + R0] = 0;
+            assert_eq!(verdicts(&image)[2], (25, offset as u32), "before 26");
+        }
     }
 }
 
 #[test]
 fn verdict_26_first_differing_byte_of_the_redzone() {
-    for offset in [24, 27, 28, 29, 31] {
-        let mut image = dump();
-        image.heap[CHUNK[2] + offset] ^= 1;
-        assert_eq!(verdicts(&image)[2], (26, offset as u32));
-        image.heap[CHUNK[2] + 31] ^= 2;
-        assert_eq!(verdicts(&image)[2], (26, offset as u32));
+    for form in FORMS {
+        for offset in [24, 27, 28, 29, 31] {
+            let mut image = dump(form);
+            image.heap[CHUNK[2] + offset] ^= 1;
+            assert_eq!(verdicts(&image)[2], (26, offset as u32));
+            image.heap[CHUNK[2] + 31] ^= 2;
+            assert_eq!(verdicts(&image)[2], (26, offset as u32));
+        }
     }
 }
 
 #[test]
 fn verdict_26_free_pattern_with_a_size_code() {
-    let image = dump_with_heap_word(CHUNK[0] + R1, 0x139d);
-    assert_eq!(verdicts(&image)[0], (26, 28));
+    for form in FORMS {
+        // No byte of 00 00 13 9d or 9d 13 00 00 is right.
+        let image = dump_with_heap_word(form, CHUNK[0] + R1, 0x139d);
+        assert_eq!(verdicts(&image)[0], (26, 28));
+    }
 }
 
 #[test]
 fn verdict_27_codes_of_no_size() {
-    // 251 = 0xfb has remainder 0 and 253 = 0xfd has 2; 0xffffff86 = 251 * 17111423 + 1
-    // has remainder 1, but no buffer is that large.
-    for r1 in [0, 0xfb, 0xfd, 0xffff_ff86, 0xfeed_facf] {
-        assert_eq!(allocated_with(0xfeedface, r1), (27, 0));
+    for form in FORMS {
+        // 251 = 0xfb has remainder 0 and 253 = 0xfd has 2; 0xffffff86 = 251 * 17111423 + 1
+        // has remainder 1, but no buffer is that large. The last two are the size code
+        // 0x139d and the redzone word 0xfeedface the other way round.
+        for r1 in [
+            0,
+            0xfb,
+            0xfd,
+            0xffff_ff86,
+            0xfeed_facf,
+            0x9d13_0000,
+            0xcefa_edfe,
+        ] {
+            assert_eq!(allocated_with(form, 0xfeedface, r1), (27, 0));
+        }
     }
 }
 
 #[test]
 fn verdict_27_comes_before_28() {
-    assert_eq!(allocated_with(0, 0x139e), (27, 0));
+    for form in FORMS {
+        assert_eq!(allocated_with(form, 0, 0x139e), (27, 0));
+    }
 }
 
 #[test]
 fn verdict_28_guard_byte() {
-    let mut image = dump();
-    image.heap[CHUNK[1] + 20] = 0xba;
-    image.heap[CHUNK[1] + R0] = 0;
-    assert_eq!(verdicts(&image), [(0, 0), (28, 20), (0, 0)]);
+    for form in FORMS {
+        let mut image = dump(form);
+        image.heap[CHUNK[1] + 20] = 0xba;
+        image.heap[CHUNK[1] + R0] = 0;
+        assert_eq!(verdicts(&image), [(0, 0), (28, 20), (0, 0)]);
+    }
 }
 
 #[test]
 fn verdict_28_redzone_after_a_sound_guard() {
-    assert_eq!(allocated_with(0xfeecface, 0x139d), (28, 25));
-    assert_eq!(allocated_with(0xbbedface, 0x139d), (28, 24));
-    assert_eq!(allocated_with(0xfeedfacf, 0x139d), (28, 27));
+    for form in FORMS {
+        let offset = |high, low| (28, form.pick(high, low));
+        assert_eq!(allocated_with(form, 0xfeecface, 0x139d), offset(25, 26));
+        assert_eq!(allocated_with(form, 0xbbedface, 0x139d), offset(24, 27));
+        assert_eq!(allocated_with(form, 0xfeedfabb, 0x139d), offset(27, 24));
+        assert_eq!(allocated_with(form, 0xfeedfacf, 0x139d), offset(27, 24));
+        assert_eq!(allocated_with(form, 0xfeecfbce, 0x139d), offset(25, 25));
+    }
 }
 
 #[test]
 fn verdict_28_full_size_grant() {
-    assert_eq!(allocated_with(0xfeedface, 0x1789), (28, 24));
-    assert_eq!(allocated_with(0xbbedfbcf, 0x1789), (28, 26));
+    for form in FORMS {
+        assert_eq!(allocated_with(form, 0xfeedface, 0x1789), (28, 24));
+        // The full-size word of the other order has no bb at 24.
+        let other = form.pick(0xfeedfabb, 0xbbedface);
+        assert_eq!(allocated_with(form, other, 0x1789), (28, 24));
+        // Bytes bb ed fb cf and bb fa ee ff.
+        let third_byte = form.pick(0xbbedfbcf, 0xffeefabb);
+        assert_eq!(allocated_with(form, third_byte, 0x1789), (28, 26));
+    }
 }
 
 #[test]
 fn verdict_28_whole_grant() {
-    assert_eq!(allocated_with(0xbbedface, 0xfeedface), (28, 24));
-    assert_eq!(allocated_with(0xfeedfa00, 0xfeedface), (28, 27));
+    for form in FORMS {
+        let offset = |high, low| (28, form.pick(high, low));
+        assert_eq!(allocated_with(form, 0xbbedface, 0xfeedface), offset(24, 27));
+        assert_eq!(allocated_with(form, 0xfeedfabb, 0xfeedface), offset(27, 24));
+        assert_eq!(allocated_with(form, 0xfeedfa00, 0xfeedface), offset(27, 24));
+    }
 }
 
 #[test]
 fn bytes_between_guard_and_redzone_are_not_judged() {
-    let mut image = dump();
-    image.heap[CHUNK[1] + 21..CHUNK[1] + 24].fill(0);
-    assert_eq!(verdicts(&image)[1], (2, 20));
+    for form in FORMS {
+        let mut image = dump(form);
+        image.heap[CHUNK[1] + 21..CHUNK[1] + 24].fill(0);
+        assert_eq!(verdicts(&image)[1], (2, 20));
+    }
 }
 
 #[test]
 fn client_that_stores_the_free_fill_is_still_allocated() {
-    let mut image = dump();
-    image.heap[CHUNK[1]..CHUNK[1] + 20].copy_from_slice(&words(&[0xdeadbeef; 5]));
-    assert_eq!(verdicts(&image)[1], (2, 20));
+    for form in FORMS {
+        let mut image = dump(form);
+        image.heap[CHUNK[1]..CHUNK[1] + 20].copy_from_slice(&form.words(&[0xdeadbeef; 5]));
+        assert_eq!(verdicts(&image)[1], (2, 20));
+    }
 }
 
 /// What stands in a row that no call may touch.
@@ -266,19 +346,23 @@ const KEPT: Finding = Finding {
 
 #[test]
 fn rows_past_n_stay() {
-    let image = dump();
-    let mut rows = [KEPT; 5];
-    let answer = inspect(&image.sheet, &image.heap, &image.records, &mut rows);
-    assert_eq!(answer, Ok(3));
-    assert_eq!(rows[..3], findings(&image));
-    assert_eq!(rows[3..], [KEPT; 2]);
+    for form in FORMS {
+        let image = dump(form);
+        let mut rows = [KEPT; 5];
+        let answer = inspect(&image.sheet, &image.heap, &image.records, &mut rows);
+        assert_eq!(answer, Ok(3));
+        assert_eq!(rows[..3], findings(&image));
+        assert_eq!(rows[3..], [KEPT; 2]);
+    }
 }
 
 #[test]
 fn refusal_11_rows_shorter_than_n() {
-    let image = dump();
-    let mut rows = [KEPT; 2];
-    let answer = inspect(&image.sheet, &image.heap, &image.records, &mut rows);
-    assert_eq!(answer, refused(11));
-    assert_eq!(rows, [KEPT; 2]);
+    for form in FORMS {
+        let image = dump(form);
+        let mut rows = [KEPT; 2];
+        let answer = inspect(&image.sheet, &image.heap, &image.records, &mut rows);
+        assert_eq!(answer, refused(11));
+        assert_eq!(rows, [KEPT; 2]);
+    }
 }
