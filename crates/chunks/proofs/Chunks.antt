@@ -8,17 +8,19 @@ use borrow.Author.Tests.{le-leb, leb-true}
 use lib.Dec.{eqb, leb}
 use lib.ListN.{length, getD, length-append, length-set}
 use lib.Seq.{sets}
-use Rattle.words.specs.Word.{part, bytesOf}
+use Rattle.words.specs.Word.{part}
 use Rattle.runs.specs.Run.{repeated, difference}
 use Rattle.runs.specs.declared.run.Difference.{Difference}
 use Rattle.runs.specs.declared.run.Difference.the-variants.{At, Nowhere}
 use Rattle.words.proofs.Numbers.{length-bytesOf}
 use Rattle.words.proofs.Parts.{sets-next, sets-whole}
-use Rattle.runs.proofs.Runs.{length-repeated, repeated-once}
+use Rattle.runs.proofs.Runs.{length-repeated}
+use Rattle.tags.specs.Format.{wordBytes}
 use Rattle.tags.specs.SizeCode.{decodedOf}
 use Rattle.tags.proofs.Tags.{decoded-within}
 use Rattle.chunks.specs.Chunk.{redzone, guard, bufferSize, chunkOf, freeChunk, grantedChunk, lawfulSize, grantSize}
 use Rattle.chunks.specs.Judge.{byDifference, r1Of, byDecoded, zoneAfter, zoneVerdict, sizedVerdict, allocatedVerdict}
+use Rattle.tags.specs.declared.format.Format.{Format}
 use Rattle.tags.specs.declared.size_code.Decoded.{Decoded}
 use Rattle.tags.specs.declared.size_code.Decoded.the-variants.{Size, Bad}
 use Rattle.chunks.specs.declared.chunk.Grant.{Grant}
@@ -29,33 +31,33 @@ use Rattle.chunks.specs.declared.chunk.Grant.the-variants as grant
 -- ---- a chunk is written
 
 -- the fill and then four words are written one after the other over `l`
-pub laid : (l s₀ s₁ s₂ s₃ s₄ : List ℕ) (n w r1 t0 t1 : ℕ) → length l ≡ n + 16 → s₀ ≡ sets l 0 (repeated n w)
-    → s₁ ≡ sets s₀ n (bytesOf 4 redzone) → s₂ ≡ sets s₁ (n + 4) (bytesOf 4 r1) → s₃ ≡ sets s₂ (n + 8) (bytesOf 4 t0)
-    → s₄ ≡ sets s₃ (n + 12) (bytesOf 4 t1) → s₄ ≡ chunkOf (repeated n w) redzone r1 t0 t1
+pub laid : (f : Format) (l s₀ s₁ s₂ s₃ s₄ w : List ℕ) (n r1 t0 t1 : ℕ) → length l ≡ n + 16 → s₀ ≡ sets l 0 (repeated n w)
+    → s₁ ≡ sets s₀ n (wordBytes f redzone) → s₂ ≡ sets s₁ (n + 4) (wordBytes f r1) → s₃ ≡ sets s₂ (n + 8) (wordBytes f t0)
+    → s₄ ≡ sets s₃ (n + 12) (wordBytes f t1) → s₄ ≡ chunkOf f (repeated n w) redzone r1 t0 t1
 unfolding chunkOf
-laid l s₀ s₁ s₂ s₃ s₄ n w r1 t0 t1 el e₀ e₁ e₂ e₃ e₄ =
+laid f l s₀ s₁ s₂ s₃ s₄ w n r1 t0 t1 el e₀ e₁ e₂ e₃ e₄ =
     let p₀ = repeated n w in
-    let p₁ = p₀ ++ bytesOf 4 redzone in
-    let p₂ = p₁ ++ bytesOf 4 r1 in
-    let p₃ = p₂ ++ bytesOf 4 t0 in
-    let f₁ = sets-next l p₀ (bytesOf 4 redzone) 0 n n e₀ (length-repeated n w) (omega arith) e₁ in
-    let f₂ = sets-next l p₁ (bytesOf 4 r1) 0 (n + 4) (n + 4) f₁ (simp (length-append, length-bytesOf, length-repeated)) (omega arith) e₂ in
-    let f₃ = sets-next l p₂ (bytesOf 4 t0) 0 (n + 8) (n + 8) f₂ (simp (length-append, length-bytesOf, length-repeated) (omega arith)) (omega arith) e₃ in
-    let f₄ = sets-next l p₃ (bytesOf 4 t1) 0 (n + 12) (n + 12) f₃ (simp (length-append, length-bytesOf, length-repeated) (omega arith)) (omega arith) e₄ in
-    f₄ ∙ sets-whole l (p₃ ++ bytesOf 4 t1) (simp (length-append, length-bytesOf, length-repeated) (omega arith))
+    let p₁ = p₀ ++ wordBytes f redzone in
+    let p₂ = p₁ ++ wordBytes f r1 in
+    let p₃ = p₂ ++ wordBytes f t0 in
+    let f₁ = sets-next l p₀ (wordBytes f redzone) 0 n n e₀ (length-repeated n w) (omega arith) e₁ in
+    let f₂ = sets-next l p₁ (wordBytes f r1) 0 (n + 4) (n + 4) f₁ (simp (length-append, length-bytesOf, length-repeated)) (omega arith) e₂ in
+    let f₃ = sets-next l p₂ (wordBytes f t0) 0 (n + 8) (n + 8) f₂ (simp (length-append, length-bytesOf, length-repeated) (omega arith)) (omega arith) e₃ in
+    let f₄ = sets-next l p₃ (wordBytes f t1) 0 (n + 12) (n + 12) f₃ (simp (length-append, length-bytesOf, length-repeated) (omega arith)) (omega arith) e₄ in
+    f₄ ∙ sets-whole l (p₃ ++ wordBytes f t1) (simp (length-append, length-bytesOf, length-repeated) (omega arith))
 
-pub length-chunkOf : (b : List ℕ) (r0 r1 t0 t1 : ℕ) → length (chunkOf b r0 r1 t0 t1) ≡ length b + 16
+pub length-chunkOf : (f : Format) (b : List ℕ) (r0 r1 t0 t1 : ℕ) → length (chunkOf f b r0 r1 t0 t1) ≡ length b + 16
 unfolding chunkOf
-length-chunkOf b r0 r1 t0 t1 = simp (length-append, length-bytesOf) (omega arith)
+length-chunkOf f b r0 r1 t0 t1 = simp (length-append, length-bytesOf) (omega arith)
 
-pub length-freeChunk : (size a : ℕ) → length (freeChunk size a) ≡ size + 16
+pub length-freeChunk : (f : Format) (size a : ℕ) → length (freeChunk f size a) ≡ size + 16
 unfolding freeChunk
-length-freeChunk size a = simp (length-chunkOf, length-repeated)
+length-freeChunk f size a = simp (length-chunkOf, length-repeated)
 
-pub length-grantedChunk : (size a : ℕ) (g : Grant) → length (grantedChunk size a g) ≡ size + 16
+pub length-grantedChunk : (f : Format) (size a : ℕ) (g : Grant) → length (grantedChunk f size a g) ≡ size + 16
 unfolding grantedChunk
-length-grantedChunk size a grant.Whole = simp (length-chunkOf, length-repeated)
-length-grantedChunk size a (grant.Sized s) = simp (length-set, length-chunkOf, length-repeated)
+length-grantedChunk f size a grant.Whole = simp (length-chunkOf, length-repeated)
+length-grantedChunk f size a (grant.Sized s) = simp (length-set, length-chunkOf, length-repeated)
 
 -- a size is lawful exactly where it is one of the buffer's
 pub lawful-within : (size s : ℕ) (q : Grant) → q ≡ grant.Sized s → lawfulSize size q ≡ true → (1 ≤ s) × (s ≤ size)
@@ -73,16 +75,16 @@ grant-within size (grant.Sized s) l = lawful-within size s (grant.Sized s) refl 
 
 -- ---- a chunk is judged
 
--- the code compares R0 with a repeated word, the rule with the word's bytes
-pub zone-at : (c : List ℕ) (w o : ℕ) (v : Verdict) (d : Difference) → d ≡ difference (part c (bufferSize c) 4) (repeated 4 w) → d ≡ At o
-    → Overrun (bufferSize c + o) ≡ zoneVerdict c (bytesOf 4 w) v
+-- R0 is compared with what it should be
+pub zone-at : (c zone : List ℕ) (o : ℕ) (v : Verdict) (d : Difference) → d ≡ difference (part c (bufferSize c) 4) zone → d ≡ At o
+    → Overrun (bufferSize c + o) ≡ zoneVerdict c zone v
 unfolding zoneVerdict
-zone-at c w o v d e g = rw (← repeated-once w, ← e, g)
+zone-at c zone o v d e g = rw (← e, g)
 
-pub zone-sound : (c : List ℕ) (w : ℕ) (v : Verdict) (d : Difference) → d ≡ difference (part c (bufferSize c) 4) (repeated 4 w) → d ≡ Nowhere
-    → v ≡ zoneVerdict c (bytesOf 4 w) v
+pub zone-sound : (c zone : List ℕ) (v : Verdict) (d : Difference) → d ≡ difference (part c (bufferSize c) 4) zone → d ≡ Nowhere
+    → v ≡ zoneVerdict c zone v
 unfolding zoneVerdict
-zone-sound c w v d e g = rw (← repeated-once w, ← e, g)
+zone-sound c zone v d e g = rw (← e, g)
 
 -- a verdict of so many bytes allocated is one of the buffer's sizes
 zone-within : (c zone : List ℕ) (v : Verdict) (s : ℕ) → zoneVerdict c zone v ≡ Allocated s → v ≡ Allocated s
@@ -93,18 +95,18 @@ zone-within c zone v s e = go (difference (part c (bufferSize c) 4) zone) e
     go (At o) f = absurd (let z : _≡_ {A = ℕ} 0 1 = cc in omega arith)
     go Nowhere f = f
 
-pub allocated-within : (c : List ℕ) (s : ℕ) → allocatedVerdict c ≡ Allocated s → (1 ≤ s) × (s ≤ bufferSize c)
+pub allocated-within : (f : Format) (c : List ℕ) (s : ℕ) → allocatedVerdict f c ≡ Allocated s → (1 ≤ s) × (s ≤ bufferSize c)
 unfolding allocatedVerdict sizedVerdict
-allocated-within c s e = go (eqb (r1Of c) redzone) (decodedOf (r1Of c) (bufferSize c)) refl e
+allocated-within f c s e = go (eqb (r1Of f c) redzone) (decodedOf (r1Of f c) (bufferSize c)) refl e
   where
-    sized : (k : ℕ) (b : Bool) → cond b (zoneVerdict c (zoneAfter k (bufferSize c)) (Allocated k)) (Overrun k) ≡ Allocated s → k ≡ s
-    sized k true f = let z = zone-within c (zoneAfter k (bufferSize c)) (Allocated k) s f in cc
-    sized k false f = absurd (let z : _≡_ {A = ℕ} 0 1 = cc in omega arith)
+    sized : (k : ℕ) (b : Bool) → cond b (zoneVerdict c (zoneAfter f k (bufferSize c)) (Allocated k)) (Overrun k) ≡ Allocated s → k ≡ s
+    sized k true g = let z = zone-within c (zoneAfter f k (bufferSize c)) (Allocated k) s g in cc
+    sized k false g = absurd (let z : _≡_ {A = ℕ} 0 1 = cc in omega arith)
 
-    go : (b : Bool) (d : Decoded) → decodedOf (r1Of c) (bufferSize c) ≡ d
-        → cond b (zoneVerdict c (bytesOf 4 redzone) Whole) (byDecoded d (λ k.
-        cond (eqb (getD c k 0) guard) (zoneVerdict c (zoneAfter k (bufferSize c)) (Allocated k)) (Overrun k)) BadSizeCode) ≡ Allocated s
+    go : (b : Bool) (d : Decoded) → decodedOf (r1Of f c) (bufferSize c) ≡ d
+        → cond b (zoneVerdict c (wordBytes f redzone) Whole) (byDecoded d (λ k.
+        cond (eqb (getD c k 0) guard) (zoneVerdict c (zoneAfter f k (bufferSize c)) (Allocated k)) (Overrun k)) BadSizeCode) ≡ Allocated s
         → (1 ≤ s) × (s ≤ bufferSize c)
-    go true d q f = absurd (let w = zone-within c (bytesOf 4 redzone) Whole s f in let z : _≡_ {A = ℕ} 0 1 = cc in omega arith)
-    go false (Size k) q f = let z : k ≡ s = sized k (eqb (getD c k 0) guard) f in decoded-within (r1Of c) (bufferSize c) s (q ∙ ap Size z)
-    go false Bad q f = absurd (let z : _≡_ {A = ℕ} 0 1 = cc in omega arith)
+    go true d q g = absurd (let w = zone-within c (wordBytes f redzone) Whole s g in let z : _≡_ {A = ℕ} 0 1 = cc in omega arith)
+    go false (Size k) q g = let z : k ≡ s = sized k (eqb (getD c k 0) guard) g in decoded-within (r1Of f c) (bufferSize c) s (q ∙ ap Size z)
+    go false Bad q g = absurd (let z : _≡_ {A = ℕ} 0 1 = cc in omega arith)

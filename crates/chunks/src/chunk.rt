@@ -30,7 +30,8 @@ pub enum Grant {
 fn write(f: Format, chunk: &mut [u8], fill: u32, r1: u32, tag: Tag)
     requires { ⌜ ChunkLength (length (now chunk)) ⌝ }
     ensures { λ _. ⌜ now (chunk .exit)
-        ≡ chunkOf f (repeated (bufferSize (now (chunk .entry))) (wordBytes f fill)) redzone r1 (tag .t0) (tag .t1) ⌝ }
+        ≡ chunkOf f (repeated (bufferSize (now (chunk .entry))) (wordBytes f fill))
+        redzone r1 (tag .t0) (tag .t1) ⌝ }
 {
     let o = f.order;
     let size = chunk.len() - 16;
@@ -46,20 +47,16 @@ pub fn write_free(f: Format, chunk: &mut [u8], record_at: u32)
     requires { ⌜ ChunkLength (length (now chunk)) ⌝ }
     ensures { λ _. ⌜ now (chunk .exit) ≡ freeChunk f (bufferSize (now (chunk .entry))) «record_at» ⌝ }
 {
-    write(
-        f,
-        chunk,
-        FREE_FILL,
-        REDZONE,
-        Tag::new(record_at, State::Free),
-    );
+    let tag = Tag::new(record_at, State::Free);
+    write(f, chunk, FREE_FILL, REDZONE, tag);
 }
 
 // Writes the chunk of a granted buffer whose record is at an address.
 pub fn write_granted(f: Format, chunk: &mut [u8], record_at: u32, grant: Grant)
     requires { ⌜ ChunkLength (length (now chunk)) ⌝ }
     requires { ⌜ lawfulSize (bufferSize (now chunk)) grant ≡ true ⌝ }
-    ensures { λ _. ⌜ now (chunk .exit) ≡ grantedChunk f (bufferSize (now (chunk .entry))) «record_at» grant ⌝ }
+    ensures { λ _. ⌜ now (chunk .exit)
+        ≡ grantedChunk f (bufferSize (now (chunk .entry))) «record_at» grant ⌝ }
 {
     let tag = Tag::new(record_at, State::Allocated);
     match grant {

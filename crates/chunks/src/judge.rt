@@ -81,11 +81,8 @@ pub fn judge_allocated(f: Format, chunk: &[u8]) -> Told
     let size = chunk.len() - 16;
     let r1 = word::read_u32(o, chunk, size + 4);
     if r1 == chunk::REDZONE {
-        return judge_zone(
-            chunk,
-            word::turn4(o, chunk::REDZONE),
-            verdict::tell(Verdict::Whole),
-        );
+        let zone = word::turn4(o, chunk::REDZONE);
+        return judge_zone(chunk, zone, verdict::tell(Verdict::Whole));
     }
     let code = size_code::decode(r1, size as u32);
     match code {

@@ -11,8 +11,9 @@ use Rattle.chunks.proofs.judge.judge_allocated.Tie as tie
 returns : tie.Need-returns
 unfolding allocatedVerdict
 returns c =
-    let i = c .before .before in
-    rw (← i .before .read-u32 .ensures, eq-eqb _ _ (i .if1 .taken)) (c .judge-zone .ensures Whole (c .before .tell .ensures))
+    let t = c .before .before in
+    let i = t .before in
+    rw (← i .before .read-u32 .ensures, eq-eqb _ _ (i .if1 .taken), ← t .turn4 .ensures) (c .judge-zone .ensures Whole (c .before .tell .ensures))
 
 judge-sized-requires : tie.Need-judge-sized-requires
 judge-sized-requires c κs = (search needs, decoded-within _ _ _ (sym (c .before .before .before .decode .ensures) ∙ c .before .code .given .1) .1)
@@ -37,5 +38,5 @@ pub judge-allocated-spec : {M : Type 1} → statement M
 judge-allocated-spec =
     tie.close
     (tie.spec
-    (λ c. search needs) (λ c. search needs) (λ c κs. search needs) (λ c κs. search needs) (λ c κs. search needs) returns
+    (λ c. search needs) (λ c. search needs) (λ c κs. search needs) (λ c κs. search needs) (λ c κs. search needs) (λ c κs. search needs) returns
     (λ c. search needs) (λ c κs. search needs) (λ c. search needs) (λ c κs. search needs) (λ c. search needs) judge-sized-requires returns-2 returns-3)

@@ -11,14 +11,17 @@ unfolding sizedVerdict
 returns-2 c =
     let w = c .before .before in
     let i = w .before in
-    rw (eq-eqb _ _ (i .before .if1 .left), eq-eqb _ _ (i .if2 .taken), ← w .with-first .ensures)
+    let t = i .before in
+    rw (eq-eqb _ _ (t .before .if1 .left), eq-eqb _ _ (i .if2 .taken), ← t .turn4 .ensures, ← w .with-first .ensures)
     (c .judge-zone .ensures (Allocated _) (c .before .tell2 .ensures))
 
 returns-3 : tie.Need-returns-3
 unfolding sizedVerdict
 returns-3 c =
     let i = c .before .before in
-    rw (eq-eqb _ _ (i .before .if1 .left), ne-eqb _ _ (i .if2 .left)) (c .judge-zone2 .ensures (Allocated _) (c .before .tell3 .ensures))
+    let t = i .before in
+    rw (eq-eqb _ _ (t .before .if1 .left), ne-eqb _ _ (i .if2 .left), ← t .turn4 .ensures)
+    (c .judge-zone2 .ensures (Allocated _) (c .before .tell3 .ensures))
 
 pub judge-sized-spec : {M : Type 1} → statement M
 unfolding sizedVerdict
@@ -27,5 +30,5 @@ judge-sized-spec =
     (tie.spec
     (λ c. search needs) (λ c κs. search needs)
     (λ c. rw (ne-eqb _ _ (c .before .if1 .taken)) (c .tell .ensures))
-    (λ c. search needs) (λ c κs. search needs) (λ c κs. search needs) (λ c κs. search needs) returns-2
+    (λ c κs. search needs) (λ c. search needs) (λ c κs. search needs) (λ c κs. search needs) (λ c κs. search needs) returns-2
     (λ c κs. search needs) (λ c κs. search needs) returns-3)

@@ -3,7 +3,7 @@ use mathlib.Core.Path.{ap, _∙_}
 use Prim.Native.Nat.{_<_}
 use native.Mathlib.Omega.{arith}
 use borrow.Author.Needs.{needs}
-use Rattle.runs.proofs.Runs.{run-within}
+use Rattle.runs.proofs.Runs.{part-within}
 use Rattle.tags.specs.Verdict.{toldOf}
 use Rattle.chunks.proofs.Chunks.{zone-at, zone-sound}
 use Rattle.chunks.proofs.judge.judge_zone.Statement.{statement}
@@ -11,7 +11,7 @@ use Rattle.chunks.proofs.judge.judge_zone.Tie as tie
 
 -- the difference lies in R0
 inside : (c : tie.After-known-told) → c .before .d .given .0 .0 < 4
-inside c = run-within _ _ _ _ (omega arith) _ _ (c .before .before .before .word-difference .ensures) (c .before .d .given .1)
+inside c = part-within _ _ _ _ _ _ (omega arith) (c .before .before .before .word-difference .ensures) (c .before .d .given .1)
 
 returns : tie.Need-returns
 returns c v e =
