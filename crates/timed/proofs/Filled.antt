@@ -13,11 +13,11 @@ use Rattle.runs.proofs.Runs.{length-repeated}
 use Rattle.timed.specs.Timed.{placeOf, filled}
 
 -- a slice that was filled from its start to its end, and one that was left
-pub filled-whole : (l s : List ℕ) (w : ℕ) → length l % 8 ≡ 0 → s ≡ sets l 0 (repeated (length l) w) → s ≡ filled l w
+pub filled-whole : (l s w : List ℕ) → length l % 8 ≡ 0 → s ≡ sets l 0 (repeated (length l) w) → s ≡ filled l w
 unfolding filled
 filled-whole l s w h e = rw (e, eq-eqb (length l % 8) 0 h) (sets-whole l (repeated (length l) w) (length-repeated (length l) w))
 
-pub filled-none : (l : List ℕ) (w : ℕ) → (length l % 8 ≡ 0 → ⊥) → l ≡ filled l w
+pub filled-none : (l w : List ℕ) → (length l % 8 ≡ 0 → ⊥) → l ≡ filled l w
 unfolding filled
 filled-none l w h = rw (ne-eqb (length l % 8) 0 h)
 

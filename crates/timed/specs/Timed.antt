@@ -13,6 +13,6 @@ abbrev pub placeOf : Difference → ℕ
 placeOf (At o) = o
 placeOf Nowhere = 18446744073709551615
 
--- a list that is filled with a word again and again, where its length is a multiple of 8; else it stays
-unfoldable pub filled : List ℕ → ℕ → List ℕ
+-- a list that is filled with the four bytes of a word again and again, where its length is a multiple of 8; else it stays
+unfoldable pub filled : List ℕ → List ℕ → List ℕ
 filled l w = cond (eqb (length l % 8) 0) (repeated (length l) w) l

@@ -11,8 +11,9 @@ returns c = (sym (ne-eqb _ 0 (c .if1 .taken)), filled-none _ _ (c .if1 .taken))
 
 returns-2 : tie.Need-returns-2
 returns-2 c =
-    let left = c .before .before .before .before .if1 .left in
-    (sym (eq-eqb _ 0 left), filled-whole _ _ _ left (c .before .before .fill .ensures))
+    let f = c .before .before in
+    let left = f .before .before .before .if1 .left in
+    (sym (eq-eqb _ 0 left), rw (← f .before .swap4 .ensures) (filled-whole _ _ _ left (f .fill .ensures)))
 
 pub timed-fill-spec : {M : Type 1} → statement M
-timed-fill-spec = tie.close (tie.spec returns (λ c κs. search needs) (λ c. search needs) returns-2)
+timed-fill-spec = tie.close (tie.spec returns (λ c κs. search needs) (λ c κs. search needs) (λ c. search needs) returns-2)

@@ -5,7 +5,9 @@ use Rattle.timed.proofs.run.timed_first_difference.Statement.{statement
 use Rattle.timed.proofs.run.timed_first_difference.Tie as tie
 
 returns : tie.Need-returns
-returns c = whole-place _ _ _ _ (c .before .first-difference .ensures) (c .place .ensures)
+returns c =
+    let d = c .before in
+    rw (← d .before .swap4 .ensures) (whole-place _ _ _ _ (d .first-difference .ensures) (c .place .ensures))
 
 pub timed-first-difference-spec : {M : Type 1} → statement M
-timed-first-difference-spec = tie.close (tie.spec (λ c κs. search needs) (λ c κs. search needs) returns)
+timed-first-difference-spec = tie.close (tie.spec (λ c κs. search needs) (λ c κs. search needs) (λ c κs. search needs) returns)
