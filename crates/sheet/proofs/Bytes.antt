@@ -1,7 +1,7 @@
 -- A sheet that is written field by field, and read back; another head is another sheet. Assumes nothing.
 use mathlib.Core.Path.{_≡_, refl, sym, ap, _∙_}
-use mathlib.Core.Logic.{_⊎_, inl, inr}
-use mathlib.Core.Bool.{Bool, true, false, _&&_, _||_, and-assoc, and-true as and-right, and-eq-true-iff, cond}
+use mathlib.Core.Logic.{_≢_}
+use mathlib.Core.Bool.{Bool, true, false, _&&_, _||_, and-assoc, and-true as and-right, and-eq-true-iff, or-true, or-false}
 use mathlib.Core.List.{List, [], _∷_, _++_, append-assoc, append-nil}
 use Prim.Native.Nat.{ℕ, zero, suc, _+_, _^_, _≤_, _<_}
 use native.Mathlib.Omega.{arith}
@@ -29,6 +29,23 @@ use Rattle.sheet.specs.declared.opening.Opened.the-variants as opened
 pub eight : {a b c d e f g h a' b' c' d' e' f' g' h' : Bool} → a ≡ a' → b ≡ b' → c ≡ c' → d ≡ d' → e ≡ e' → f ≡ f' → g ≡ g' → h ≡ h'
     → a && b && c && d && e && f && g && h ≡ a' && (b' && (c' && (d' && (e' && (f' && (g' && (h' && true)))))))
 eight ea eb ec ed ee ef eg eh = rw (ea, eb, ec, ed, ee, ef, eg, eh) (simp (and-assoc, and-right))
+
+-- and a ninth behind them
+pub nine : (s : List ℕ) {a b : Bool} → a ≡ fieldsFrom shortFields 0 s → b ≡ fieldIs s shortLength 9 1 → a && b ≡ fieldsFrom fields 0 s
+nine s ea eb = rw (ea, eb) (simp (and-assoc, and-right))
+
+-- a sheet has the length of the short form, of the long form, or neither
+pub shaped-short : (s : List ℕ) → length s ≡ shortLength → fieldsFrom shortFields 0 s ≡ shaped s
+unfolding shaped isShort isLong
+shaped-short s e = rw (eq-eqb _ _ e, ne-eqb (length s) sheetLength (λ q. omega arith), or-false (fieldsFrom shortFields 0 s))
+
+pub shaped-nine : (s : List ℕ) → length s ≡ sheetLength → fieldsFrom fields 0 s ≡ shaped s
+unfolding shaped isShort isLong
+shaped-nine s e = rw (ne-eqb (length s) shortLength (λ q. omega arith), eq-eqb _ _ e)
+
+pub shaped-neither : (s : List ℕ) → length s ≢ shortLength → length s ≢ sheetLength → false ≡ shaped s
+unfolding shaped isShort isLong
+shaped-neither s e q = rw (ne-eqb (length s) shortLength e, ne-eqb (length s) sheetLength q)
 
 -- a sheet of either form has the eight fields of the short one
 pub shaped-long : (s : List ℕ) → shaped s ≡ true → shortLength ≤ length s
@@ -160,9 +177,19 @@ fitting : Fitting fields
 fitting =
     let b : 1 < 65536 = omega arith in
     let s : 2 < 65536 = omega arith in
-    let l : 4 < 65536 = omega arith in
-    (omega arith, l, (omega arith, l, (omega arith, l,
-    (omega arith, s, (omega arith, s, (omega arith, s, (omega arith, l, (omega arith, s, (omega arith, b, tt)))))))))
+    let l : 4 < 65536 = omega arith in (
+      omega arith,
+      l,
+      (
+        omega arith,
+        l,
+        (
+          omega arith,
+          l,
+          (omega arith, s, (omega arith, s, (omega arith, s, (omega arith, l, (omega arith, s, (omega arith, b, tt)))))),
+        ),
+      ),
+    )
 
 -- a sheet that is written has the long form
 sheet-long : (g : Sheet) → isLong (sheetBytes g) ≡ true

@@ -45,12 +45,14 @@ pub record Opens (s : List ℕ) (h r : ℕ) (g : Sheet) : Type 0 where
   pub opens : Open h r g
 
 pub opened-known : (s : List ℕ) (h r : ℕ) (g : Sheet) → openedOf s h r ≡ opened.Sheet g → Opens s h r g
-unfolding openedOf
-opened-known s h r g e = go (shaped s) refl e
+unfolding openedOf ordered
+opened-known s h r g e = go (shaped s) (orderLawful (orderNumber s)) refl e
   where
-    go : (a : Bool) → shaped s ≡ a → cond a (numbered (sheetOf s) h r) (opened.Refused BadSheet) ≡ opened.Sheet g → Opens s h r g
-    go true q f = let k = numbered-known (sheetOf s) h r g f in record { long = shaped-long s q; same = k .0; opens = k .1 }
-    go false q f = absurd (let z : _≡_ {A = ℕ} 0 1 = cc in omega arith)
+    go : (a b : Bool) → shaped s ≡ a
+        → cond a (cond b (numbered (sheetOf s) h r) (opened.Refused BadNumber)) (opened.Refused BadSheet) ≡ opened.Sheet g → Opens s h r g
+    go true true q f = let k = numbered-known (sheetOf s) h r g f in record { long = shaped-long s q; same = k .0; opens = k .1 }
+    go true false q f = absurd (let z : _≡_ {A = ℕ} 0 1 = cc in omega arith)
+    go false b q f = absurd (let z : _≡_ {A = ℕ} 0 1 = cc in omega arith)
 
 -- the same with a log
 pub logged-known : (s : List ℕ) (h r l : ℕ) (g : Sheet) → openedWithLog s h r l ≡ opened.Sheet g → Opens s h r g × (l ≤ logMost)
@@ -69,19 +71,22 @@ logged-known s h r l g e = go (openedOf s h r) (logRight l) refl refl e
 -- the lengths that a sheet asks for are small
 pub lengths-known : (s : List ℕ) (h r : ℕ) → lengthsOf s ≡ lengths.Areas h r → (h ≤ 65536) × (r ≤ 49152)
 unfolding lengthsOf areasOf
-lengths-known s h r e = go (shaped s) (lawful (sheetOf s)) refl e
+lengths-known s h r e = go (shaped s) (orderLawful (orderNumber s)) (lawful (sheetOf s)) refl e
   where
-    go : (a b : Bool) → lawful (sheetOf s) ≡ b
-        → cond a (cond b (lengths.Areas (heapLength (sheetOf s)) (recordsLength (sheetOf s))) (lengths.Refused BadNumber)) (lengths.Refused BadSheet)
+    go : (a o b : Bool) → lawful (sheetOf s) ≡ b
+        → cond a
+        (cond o (cond b (lengths.Areas (heapLength (sheetOf s)) (recordsLength (sheetOf s))) (lengths.Refused BadNumber)) (lengths.Refused BadNumber))
+        (lengths.Refused BadSheet)
         ≡ lengths.Areas h r
         → (h ≤ 65536) × (r ≤ 49152)
-    go true true q f =
+    go true true true q f =
         let l = lawful-known (sheetOf s) q in
         let x : heapLength (sheetOf s) ≡ h = cc in
         let y : recordsLength (sheetOf s) ≡ r = cc in
         (omega (arith, l .sizes .area), omega (arith, l .sizes .few))
-    go true false q f = absurd (let z : _≡_ {A = ℕ} 0 1 = cc in omega arith)
-    go false b q f = absurd (let z : _≡_ {A = ℕ} 0 1 = cc in omega arith)
+    go true true false q f = absurd (let z : _≡_ {A = ℕ} 0 1 = cc in omega arith)
+    go true false b q f = absurd (let z : _≡_ {A = ℕ} 0 1 = cc in omega arith)
+    go false o b q f = absurd (let z : _≡_ {A = ℕ} 0 1 = cc in omega arith)
 
 -- what holds of an image that opens, and of every refusal, holds by the opening
 pub by-opened : {A : Type 0} {f : Sheet → A} {shut : Refusal → A} (P : A → Type 0) (o : Opened)

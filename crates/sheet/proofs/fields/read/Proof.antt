@@ -10,7 +10,10 @@ returns c =
     let l = c .before in
     let s = l .before in
     let a = s .before .before .before in
+    let o = a .before .before .before in
     rw (
+      ← o .before .order-number .ensures,
+      ← o .order-of .ensures,
       a .before .before .long-body .ensures,
       a .before .long-body2 .ensures,
       a .long-body3 .ensures,
@@ -25,5 +28,5 @@ pub read-spec : {M : Type 1} → statement M
 read-spec =
     tie.close
     (tie.spec
-    (λ c κs. search needs) (λ c κs. search needs) (λ c κs. search needs) (λ c κs. search needs) (λ c. search needs) (λ c κs. search needs)
+    (λ c κs. search needs) (λ c κs. search needs) (λ c κs. search needs) (λ c κs. search needs) (λ c κs. search needs) (λ c κs. search needs) (λ c. search needs) (λ c κs. search needs)
     (λ c. search needs) (λ c κs. search needs) (λ c. search needs) (λ c κs. search needs) (λ c κs. search needs) (λ c. search needs) returns)

@@ -8,7 +8,7 @@ use Rattle.sheet.proofs.fields.write_sizes.Tie as tie
 returns : tie.Need-returns
 returns c =
     let m = c .before .before .before .before .before .before .before in
-    fields-run _ 21 2 26 31 4 5 6 _ _ _ refl refl (m .before .before .before .before .before .write-short .ensures) (m .write-short2 .ensures)
+    fields-run _ 21 26 31 4 5 6 2 2 2 _ _ _ refl refl (m .before .before .before .before .before .write-short .ensures) (m .write-short2 .ensures)
     (c .before .before .write-short3 .ensures)
 
 pub write-sizes-spec : {M : Type 1} → statement M

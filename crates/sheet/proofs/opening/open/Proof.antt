@@ -6,17 +6,14 @@ use Rattle.sheet.specs.Opening.{openedOf}
 use Rattle.sheet.proofs.opening.open.Statement.{statement}
 use Rattle.sheet.proofs.opening.open.Tie as tie
 
-read-requires : tie.Need-read-requires
-read-requires c κs = shaped-long _ (sym (c .before .is-shaped .ensures) ∙ c .if1 .taken)
-
-returns : tie.Need-returns
-unfolding openedOf
-returns c = rw (← c .before .before .before .is-shaped .ensures, c .before .before .if1 .taken, ← c .before .read .ensures) (c .judge-numbers .ensures)
-
-returns-2 : tie.Need-returns-2
-unfolding openedOf
-returns-2 c = rw (← c .before .is-shaped .ensures, c .if1 .left)
+judge-order-requires : tie.Need-judge-order-requires
+judge-order-requires c κs = shaped-long _ (sym (c .before .is-shaped .ensures) ∙ c .if1 .taken)
 
 pub open-spec : {M : Type 1} → statement M
+unfolding openedOf
 open-spec =
-    tie.close (tie.spec (λ c κs. search needs) read-requires (λ c κs. search needs) returns returns-2)
+    tie.close
+    (tie.spec
+    (λ c κs. search needs) judge-order-requires
+    (λ c. rw (← c .before .before .is-shaped .ensures, c .before .if1 .taken) (c .judge-order .ensures))
+    (λ c. rw (← c .before .is-shaped .ensures, c .if1 .left)))
