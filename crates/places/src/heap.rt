@@ -32,9 +32,9 @@ pub fn write_free(heap: &mut [u8], g: Sheet, i: usize, record_at: u32)
     ensures { λ _. ⌜ now (heap .exit)
         ≡ sets (now (heap .entry)) (chunkPlace g i) (freeChunk (g .format) (g .size) «record_at») ⌝ }
 {
+    let f = g.format;
     let at = g.chunk_place(i);
     let end = at + g.chunk;
-    let f = g.format;
     chunk::write_free(f, &mut heap[at..end], record_at);
 }
 
@@ -47,8 +47,8 @@ pub fn write_granted(heap: &mut [u8], g: Sheet, i: usize, record_at: u32, grant:
     ensures { λ _. ⌜ now (heap .exit)
         ≡ sets (now (heap .entry)) (chunkPlace g i) (grantedChunk (g .format) (g .size) «record_at» grant) ⌝ }
 {
+    let f = g.format;
     let at = g.chunk_place(i);
     let end = at + g.chunk;
-    let f = g.format;
     chunk::write_granted(f, &mut heap[at..end], record_at, grant);
 }

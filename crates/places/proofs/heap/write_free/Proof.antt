@@ -10,7 +10,7 @@ use Rattle.places.proofs.heap.write_free.Tie as tie
 
 write-free-requires : tie.Need-write-free-requires
 write-free-requires c κs =
-    let s = c .before .before .before .before in
+    let s = c .before .before .before .before .before in
     let p = s .pre in
     let e = c .before .before .chunk-place .ensures in
     lent-lawful _ _ _ _ (p .0) (p .1 .0) (p .1 .1) e
@@ -18,11 +18,12 @@ write-free-requires c κs =
 returns : tie.Need-returns
 returns c =
     let w = c .before .before in
-    let s = w .before .before .before .before .before in
+    let s = w .before .before .before .before .before .before in
     let p = s .pre in
+    let f = s .args .g .format in
     let a = s .args .record-at in
-    chunk-back _ _ _ _ (p .0) (p .1 .0) (p .1 .1) (w .before .before .before .chunk-place .ensures) (λ (n : ℕ). freeChunk n a) _
-    (λ n. length-freeChunk n a) (w .write-free .ensures)
+    chunk-back _ _ _ _ (p .0) (p .1 .0) (p .1 .1) (w .before .before .before .chunk-place .ensures) (λ (n : ℕ). freeChunk f n a) _
+    (λ n. length-freeChunk f n a) (w .write-free .ensures)
 
 pub write-free-spec : {M : Type 1} → statement M
 write-free-spec =
@@ -30,7 +31,7 @@ write-free-spec =
     (tie.spec
     (λ c κs. search needs)
     (λ c.
-    let s = c .before .before .before in
+    let s = c .before .before .before .before in
     let p = s .pre in
     omega (
       arith,
@@ -39,7 +40,7 @@ write-free-spec =
     ))
     (λ c. search needs) (λ c. search needs)
     (λ c.
-    let s = c .before .before .before in
+    let s = c .before .before .before .before in
     let p = s .pre in
     omega (
       arith,

@@ -11,7 +11,7 @@ use Rattle.places.proofs.heap.write_granted.Tie as tie
 
 write-granted-requires : tie.Need-write-granted-requires
 write-granted-requires c κs =
-    let s = c .before .before .before .before in
+    let s = c .before .before .before .before .before in
     let p = s .pre in
     let e = c .before .before .chunk-place .ensures in (
       lent-lawful _ _ _ _ (p .0) (p .1 .0) (p .1 .1 .0) e,
@@ -21,12 +21,13 @@ write-granted-requires c κs =
 returns : tie.Need-returns
 returns c =
     let w = c .before .before in
-    let s = w .before .before .before .before .before in
+    let s = w .before .before .before .before .before .before in
     let p = s .pre in
+    let f = s .args .g .format in
     let a = s .args .record-at in
     let q = s .args .grant in
-    chunk-back _ _ _ _ (p .0) (p .1 .0) (p .1 .1 .0) (w .before .before .before .chunk-place .ensures) (λ (n : ℕ). grantedChunk n a q) _
-    (λ n. length-grantedChunk n a q) (w .write-granted .ensures)
+    chunk-back _ _ _ _ (p .0) (p .1 .0) (p .1 .1 .0) (w .before .before .before .chunk-place .ensures) (λ (n : ℕ). grantedChunk f n a q) _
+    (λ n. length-grantedChunk f n a q) (w .write-granted .ensures)
 
 pub write-granted-spec : {M : Type 1} → statement M
 write-granted-spec =
@@ -34,7 +35,7 @@ write-granted-spec =
     (tie.spec
     (λ c κs. search needs)
     (λ c.
-    let s = c .before .before .before in
+    let s = c .before .before .before .before in
     let p = s .pre in
     omega (
       arith,
@@ -43,7 +44,7 @@ write-granted-spec =
     ))
     (λ c. search needs) (λ c. search needs)
     (λ c.
-    let s = c .before .before .before in
+    let s = c .before .before .before .before in
     let p = s .pre in
     omega (
       arith,
