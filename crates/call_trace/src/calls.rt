@@ -10,11 +10,13 @@ use client::show::Shown;
 use client::store;
 use image::inspect::Finding;
 use sheet::fields;
+use tags::format::Format;
 use tags::refusal::Answer;
 use tags::verdict;
 use transactions::latest;
 use transactions::latest::Transaction;
 use window::Word;
+use words::word;
 
 // The areas of an image of three buffers of 24 bytes, and a log of three rows.
 pub(crate) type SheetArea = [u8; fields::LENGTH];
@@ -181,9 +183,8 @@ pub(crate) fn inspect(sheet: &SheetArea, heap: &HeapArea, records: &RecordArea) 
     }
 }
 
-// The line of what stands at an address.
-fn put_read(call: &[u8], found: Word) {
-    lines::put_word(call);
+// The rest of the line of what stands at an address.
+fn put_found(found: Word) {
     match found {
         Word::At(n) => lines::put_number(n as u64),
         Word::NoWord => lines::put_word(b" none"),
@@ -191,12 +192,23 @@ fn put_read(call: &[u8], found: Word) {
     lines::end();
 }
 
+// A word that was read with the highest byte first, in the order of an image.
+fn in_order(f: Format, found: Word) -> Word {
+    let o = f.order;
+    match found {
+        Word::At(n) => Word::At(word::reordered(o, n)),
+        Word::NoWord => Word::NoWord,
+    }
+}
+
 // Reads a byte through a window.
 pub(crate) fn read_byte(area: &[u8], base: u32, address: u32) {
-    put_read(b"byte", window::read_byte(area, base, address));
+    lines::put_word(b"byte");
+    put_found(window::read_byte(area, base, address));
 }
 
 // Reads a word through a window.
-pub(crate) fn read_word(area: &[u8], base: u32, address: u32) {
-    put_read(b"word", window::read_word(area, base, address));
+pub(crate) fn read_word(f: Format, area: &[u8], base: u32, address: u32) {
+    lines::put_word(b"word");
+    put_found(in_order(f, window::read_word(area, base, address)));
 }

@@ -1,8 +1,9 @@
-// The calls, traced: a heap of three buffers of 24 bytes is laid out and used, refused, asked and hurt, and each call's answer is
-// a line on standard output. What it writes is held to the text that the second program makes of the same calls.
+// The calls, traced: a heap of three buffers of 24 bytes is laid out and used, refused, asked and hurt, first with the high byte first and
+// then with the low byte first, and each call's answer is a line on standard output. What it writes is held to the text that the second program makes of the same calls.
 //
 // A line is the call's name and its answer, words and decimal numbers behind one space each, and a line feed:
 //
+//     order                   high or low, of the lines that follow
 //     lay_out, store, free    done
 //     allocate                the buffer's address
 //     find_client             where the client's bytes start in the heap, and how many they are
@@ -21,6 +22,8 @@ use crate::calls::SheetArea;
 use area::record;
 use chunks::chunk::Grant;
 use sheet::fields;
+use tags::format::Format;
+use words::word::Order;
 
 // The calls, each with its line.
 mod calls;
@@ -48,9 +51,9 @@ const THIRD: u32 = HEAP + 80;
 const GUARD: usize = 20;
 
 // An image that is none yet, and the image that is laid out.
-fn begin(sheet: &mut SheetArea, heap: &mut HeapArea, records: &mut RecordArea) {
+fn begin(f: Format, sheet: &mut SheetArea, heap: &mut HeapArea, records: &mut RecordArea) {
     calls::inspect(sheet, heap, records);
-    let answer = layout::lay_out(CACHE, HEAP, RECORDS, 24, 3, sheet, heap, records);
+    let answer = layout::lay_out(f, CACHE, HEAP, RECORDS, 24, 3, sheet, heap, records);
     calls::put_outcome(b"lay_out", answer);
     calls::inspect(sheet, heap, records);
 }
@@ -95,10 +98,24 @@ fn show_freed(sheet: &SheetArea, heap: &HeapArea, records: &RecordArea) {
 }
 
 // Three rows of the log: record 0 at 150, record 1 at 450, and record 0 at 110.
-fn log() -> Log {
+fn log_high() -> Log {
     *b"\x70\xae\x31\xa0\0\0\0\x96\0\0\0\x07\0\0\0\x01\
       \x70\xae\x32\0\0\0\x01\xc2\0\0\0\x08\0\0\0\x02\
       \x70\xae\x31\xa0\0\0\0\x6e\0\0\0\x09\0\0\0\x01"
+}
+
+fn log_low() -> Log {
+    *b"\xa0\x31\xae\x70\x96\0\0\0\x07\0\0\0\x01\0\0\0\
+      \0\x32\xae\x70\xc2\x01\0\0\x08\0\0\0\x02\0\0\0\
+      \xa0\x31\xae\x70\x6e\0\0\0\x09\0\0\0\x01\0\0\0"
+}
+
+fn log(f: Format) -> Log {
+    let o = f.order;
+    match o {
+        Order::HighFirst => log_high(),
+        Order::LowFirst => log_low(),
+    }
 }
 
 // The latest transactions: at time 600 a row of buffer 0 and the record of buffer 1; at time 120 the other row, since the uptime
@@ -111,15 +128,15 @@ fn ask<'a>(sheet: &SheetArea, heap: &HeapArea, records: &'a RecordArea, log: &'a
 }
 
 // Bytes and words inside the areas, at their ends, and past them.
-fn read(heap: &HeapArea, records: &RecordArea) {
+fn read(f: Format, heap: &HeapArea, records: &RecordArea) {
     calls::read_byte(heap, HEAP, FIRST + 20);
     calls::read_byte(heap, HEAP, HEAP + 119);
     calls::read_byte(heap, HEAP, HEAP + 120);
     calls::read_byte(heap, HEAP, HEAP - 1);
-    calls::read_word(heap, HEAP, THIRD + 24);
-    calls::read_word(heap, HEAP, HEAP + 116);
-    calls::read_word(heap, HEAP, HEAP + 117);
-    calls::read_word(records, RECORDS, RECORDS + 100);
+    calls::read_word(f, heap, HEAP, THIRD + 24);
+    calls::read_word(f, heap, HEAP, HEAP + 116);
+    calls::read_word(f, heap, HEAP, HEAP + 117);
+    calls::read_word(f, records, RECORDS, RECORDS + 100);
 }
 
 // Writes a zero over the guard byte of the first buffer.
@@ -141,20 +158,28 @@ fn use_hurt(sheet: &mut SheetArea, heap: &mut HeapArea, records: &mut RecordArea
     calls::inspect(sheet, heap, records);
 }
 
-fn main() {
+// All of them, on an image of a format.
+fn trace(f: Format) {
     let mut sheet = [0u8; fields::LENGTH];
     let mut heap = [0u8; 3 * 40];
     let mut records = [0u8; 3 * record::SIZE];
-    let log = log();
-    begin(&mut sheet, &mut heap, &mut records);
+    let log = log(f);
+    begin(f, &mut sheet, &mut heap, &mut records);
     grant(&mut sheet, &mut heap, &mut records);
     store(&sheet, &mut heap, &records);
     fill(&mut sheet, &mut heap, &mut records);
     free(&mut sheet, &mut heap, &mut records);
     show_freed(&sheet, &heap, &records);
     ask(&sheet, &heap, &records, &log);
-    read(&heap, &records);
+    read(f, &heap, &records);
     hurt(&mut heap);
     show_hurt(&sheet, &heap, &records);
     use_hurt(&mut sheet, &mut heap, &mut records);
+}
+
+fn main() {
+    lines::put_word(b"order high\n");
+    trace(Format::of(false));
+    lines::put_word(b"order low\n");
+    trace(Format::of(true));
 }

@@ -1,7 +1,10 @@
-// The report program: sheet, heap, records and log from standard input to the report, or to `refused N`, on standard output.
-// It reads no more than decides the answer: a sheet that is refused ends it, and of the log one byte more than is lawful.
+// The report program: one byte, the sheet's length, then sheet, heap, records and log from standard input to the report, or to
+// `refused N`, on standard output. It reads no more than decides the answer: a sheet that is refused ends it, and of the log one byte
+// more than is lawful.
+ghost use mathlib.Core.Path.{_≡_};
 ghost use Prim.Native.Nat.{_≤_};
 ghost use lib.ListN.{length};
+ghost use Rattle.sheet.specs.Fields.{sheetLength};
 use libc::STDIN_FILENO;
 use libc::STDOUT_FILENO;
 use lines::text;
@@ -79,8 +82,37 @@ fn read_on(sheet: &[u8]) {
     }
 }
 
-fn main() {
+// Reads a sheet of so many bytes, and on behind it. One that ends early is none, though it may have the length of the short form.
+fn read_sheet(len: usize)
+    requires { ⌜ len ≤ sheetLength ⌝ }
+{
     let mut sheet = [0u8; fields::LENGTH];
-    let n = io::read_full(STDIN_FILENO, &mut sheet);
+    let n = read_in(&mut sheet, len);
+    if n < len {
+        tell_refusal(Refusal::BadSheet);
+        return;
+    }
     read_on(&sheet[..n]);
+}
+
+// The length that a byte says.
+fn wide(b: u8) -> usize
+    ensures { λ r. ⌜ r ≡ b ⌝ }
+{
+    b as usize
+}
+
+fn main() {
+    let mut first = [0u8; 1];
+    let n = io::read_full(STDIN_FILENO, &mut first);
+    let len = wide(first[0]);
+    if n < 1 {
+        tell_refusal(Refusal::BadSheet);
+        return;
+    }
+    if fields::LENGTH < len {
+        tell_refusal(Refusal::BadSheet);
+        return;
+    }
+    read_sheet(len);
 }

@@ -73,7 +73,7 @@ module _ (g : Sheet) (laid : Laid g) where
 
   allocate-keeps : (w : RunState) (q : Grant) (t : Stamp) (head : ℕ) (chain : List ℕ) → Invariant g head (w .areas) (w .ledger .out) chain
       → w .ledger .allocations ≡ w .ledger .frees + outCount g (w .ledger .out) → (b : Bool) → lawfulSize (g .size) q ≡ b
-      → RunInvariant g (step (g .size) (allocate q t) w)
+      → RunInvariant g (step (g .format) (g .size) (allocate q t) w)
   allocate-keeps w q t head chain v k false e =
       rw (allocate-unlawful g laid v q t e) (record { head = head; chain = chain; invariant = v; balance = k })
   allocate-keeps w q t head [] v k true e =
@@ -81,22 +81,22 @@ module _ (g : Sheet) (laid : Laid g) where
   allocate-keeps w q t head (j ∷ js) v k true e =
       rw (allocate-some g laid v q t e)
       (record {
-        head = nextWord (w .areas .records) j;
+        head = nextWord (g .format) (w .areas .records) j;
         chain = js;
         invariant = granted-keeps g laid q t e v;
-        balance = omega (arith, count-put j (taken-below g laid v) (some (fresh (g .size) q)) (w .ledger .out), ap outs (taken-in g laid v));
+        balance = omega (arith, count-put j (taken-below g laid v) (some (fresh (g .format) (g .size) q)) (w .ledger .out), ap outs (taken-in g laid v));
       })
 
-  free-keeps : (w : RunState) (address : ℕ) (q : Grant) (t : Stamp) → RunInvariant g w → RunInvariant g (step (g .size) (free address q t) w)
+  free-keeps : (w : RunState) (address : ℕ) (q : Grant) (t : Stamp) → RunInvariant g w → RunInvariant g (step (g .format) (g .size) (free address q t) w)
   free-keeps w address q t f =
-      by-address (w .ledger .out) (λ x. RunInvariant g (step (g .size) (free x q t) w))
+      by-address (w .ledger .out) (λ x. RunInvariant g (step (g .format) (g .size) (free x q t) w))
       (λ x e. rw (free-stray g laid (f .invariant) x e q t) f)
       (λ j h e. rw (free-in g laid (f .invariant) j h e q t) f)
       (λ j h o e. go j h o e (sameGrant (o .grant) q) refl)
       address
     where
       go : (j : ℕ) → j < g .count → (o : Entry) → w .ledger .out (bufferAddress g j) ≡ some o → (b : Bool) → sameGrant (o .grant) q ≡ b
-          → RunInvariant g (step (g .size) (free (bufferAddress g j) q t) w)
+          → RunInvariant g (step (g .format) (g .size) (free (bufferAddress g j) q t) w)
       go j h o e true s =
           rw (free-done g laid (f .invariant) j h o e q t s)
           (record {
@@ -107,9 +107,9 @@ module _ (g : Sheet) (laid : Laid g) where
           })
       go j h o e false s = rw (free-other g laid (f .invariant) j h o e q t s) f
 
-  store-keeps : (w : RunState) (address offset : ℕ) (bytes : List ℕ) → RunInvariant g w → RunInvariant g (step (g .size) (store address offset bytes) w)
+  store-keeps : (w : RunState) (address offset : ℕ) (bytes : List ℕ) → RunInvariant g w → RunInvariant g (step (g .format) (g .size) (store address offset bytes) w)
   store-keeps w address offset bytes f =
-      by-address (w .ledger .out) (λ x. RunInvariant g (step (g .size) (store x offset bytes) w))
+      by-address (w .ledger .out) (λ x. RunInvariant g (step (g .format) (g .size) (store x offset bytes) w))
       (λ x e. rw (store-stray g laid (f .invariant) x e offset bytes) f)
       (λ j h e. rw (store-in g laid (f .invariant) j h e offset bytes) f)
       (λ j h o e. go j h o e (leb (offset + length bytes) (grantSize (g .size) (o .grant))) refl)
@@ -117,7 +117,7 @@ module _ (g : Sheet) (laid : Laid g) where
     where
       go : (j : ℕ) → j < g .count → (o : Entry) → w .ledger .out (bufferAddress g j) ≡ some o
           → (b : Bool) → leb (offset + length bytes) (grantSize (g .size) (o .grant)) ≡ b
-          → RunInvariant g (step (g .size) (store (bufferAddress g j) offset bytes) w)
+          → RunInvariant g (step (g .format) (g .size) (store (bufferAddress g j) offset bytes) w)
       go j h o e true s =
           rw (store-done g laid (f .invariant) j h o e offset bytes s)
           (record {
@@ -138,15 +138,15 @@ module _ (g : Sheet) (laid : Laid g) where
           })
       go j h o e false s = rw (store-past g laid (f .invariant) j h o e offset bytes s) f
 
-  pub step-keeps : (call : Call) (w : RunState) → RunInvariant g w → RunInvariant g (step (g .size) call w)
+  pub step-keeps : (call : Call) (w : RunState) → RunInvariant g w → RunInvariant g (step (g .format) (g .size) call w)
   step-keeps (allocate q t) w f = allocate-keeps w q t (f .head) (f .chain) (f .invariant) (f .balance) (lawfulSize (g .size) q) refl
   step-keeps (free address q t) w f = free-keeps w address q t f
   step-keeps (store address offset bytes) w f = store-keeps w address offset bytes f
 
-  pub run-keeps : (calls : List Call) (w : RunState) → RunInvariant g w → RunInvariant g (run (g .size) calls w)
+  pub run-keeps : (calls : List Call) (w : RunState) → RunInvariant g w → RunInvariant g (run (g .format) (g .size) calls w)
   unfolding run
   run-keeps [] w f = f
-  run-keeps (call ∷ calls) w f = run-keeps calls (step (g .size) call w) (step-keeps call w f)
+  run-keeps (call ∷ calls) w f = run-keeps calls (step (g .format) (g .size) call w) (step-keeps call w f)
 
   pub begun-keeps : g .head ≡ g .«record_base» → RunInvariant g (begun (laidAreas g))
   begun-keeps e = record { head = g .head; chain = range 0 (g .count); invariant = laid-invariant g laid e; balance = omega (arith, total-none (g .count)) }

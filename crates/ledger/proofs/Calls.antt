@@ -64,8 +64,8 @@ module _ (g : Sheet) (laid : Laid g) where
   buffer-place j h w e = place-at (g .«heap_base») (g .chunk) (g .count) w j (chunk-some g laid) h e
 
   module _ {head : ℕ} {a : Areas} {out : ℕ → Option Entry} {chain : List ℕ} (v : Invariant g head a out chain) where
-    pub chunk-is : (j : ℕ) → j < g .count → (o : Option Entry) → out (bufferAddress g j) ≡ o → chunkIn g (a .heap) j ≡ chunkFor (g .size) (recordAddress g j) o
-    chunk-is j h o e = v .chunks j h ∙ ap (chunkFor (g .size) (recordAddress g j)) e
+    pub chunk-is : (j : ℕ) → j < g .count → (o : Option Entry) → out (bufferAddress g j) ≡ o → chunkIn g (a .heap) j ≡ chunkFor (g .format) (g .size) (recordAddress g j) o
+    chunk-is j h o e = v .chunks j h ∙ ap (chunkFor (g .format) (g .size) (recordAddress g j)) e
 
     pub entry-is : (j : ℕ) → j < g .count → (o : Option Entry) → out (bufferAddress g j) ≡ o → LawfulEntry (g .size) o
     entry-is j h o e = subst (LawfulEntry (g .size)) e (v .entries j h)
@@ -82,11 +82,11 @@ module _ (g : Sheet) (laid : Laid g) where
         rw (
           buffer-place j h (bufferAddress g j) refl,
           chunk-is j h (some o) e,
-          pattern-for (g .size) (recordAddress g j) few word (some o) l,
-          first-for (g .size) (recordAddress g j) few word (some o) l,
+          pattern-for (g .format) (g .size) (recordAddress g j) few word (some o) l,
+          first-for (g .format) (g .size) (recordAddress g j) few word (some o) l,
           record-place j h (recordAddress g j) refl,
-          eq-eqb (addressWord (a .records) j) (bufferAddress g j) (v .names j h),
-          granted-verdict (g .size) (recordAddress g j) few word (o .grant) (l .0) (o .client) (l .1),
+          eq-eqb (addressWord (g .format) (a .records) j) (bufferAddress g j) (v .names j h),
+          granted-verdict (g .format) (g .size) (recordAddress g j) few word (o .grant) (l .0) (o .client) (l .1),
         )
         (held-as (o .grant) (pairAt head j))
 
@@ -98,10 +98,10 @@ module _ (g : Sheet) (laid : Laid g) where
         rw (
           buffer-place j h (bufferAddress g j) refl,
           chunk-is j h none e,
-          pattern-for (g .size) (recordAddress g j) few word none tt,
-          first-for (g .size) (recordAddress g j) few word none tt,
+          pattern-for (g .format) (g .size) (recordAddress g j) few word none tt,
+          first-for (g .format) (g .size) (recordAddress g j) few word none tt,
           record-place j h (recordAddress g j) refl,
-          eq-eqb (addressWord (a .records) j) (bufferAddress g j) (v .names j h),
+          eq-eqb (addressWord (g .format) (a .records) j) (bufferAddress g j) (v .names j h),
         )
 
     pub held-stray : (x : ℕ) → bufferOf g x ≡ Nowhere → heldOf (imageOf a (headed g head)) x ≡ held.Refused NoSuchBuffer
@@ -173,7 +173,7 @@ module _ (g : Sheet) (laid : Laid g) where
         ap (λ (x : ℕ). part (a .heap) x k) (sym (add-zero (j * g .chunk)))
         ∙ sym (part-part (a .heap) (j * g .chunk) (g .chunk) 0 k (omega (arith, grant-within (g .size) (o .grant) (l .0), laid .law .sizes .chunks)))
         ∙ ap (λ (x : List ℕ). part x 0 k) (chunk-is j h (some o) e)
-        ∙ client-part (g .size) (recordAddress g j) o l
+        ∙ client-part (g .format) (g .size) (recordAddress g j) o l
 
     -- ---- allocate
 
@@ -208,10 +208,10 @@ module _ (g : Sheet) (laid : Laid g) where
           e,
           ne-eqb head 0 (λ z. records-some g laid (omega arith)),
           record-place j h head at,
-          buffer-place j h (addressWord (a .records) j) (v .names j h),
+          buffer-place j h (addressWord (g .format) (a .records) j) (v .names j h),
           chunk-is v j h none taken-in,
-          pattern-for (g .size) (recordAddress g j) few word none tt,
-          first-for (g .size) (recordAddress g j) few word none tt,
+          pattern-for (g .format) (g .size) (recordAddress g j) few word none tt,
+          first-for (g .format) (g .size) (recordAddress g j) few word none tt,
           eq-eqb (recordAddress g j) head (sym at),
-          free-sound (g .size) (recordAddress g j),
+          free-sound (g .format) (g .size) (recordAddress g j),
         )

@@ -1,11 +1,16 @@
--- P1 to P12 hold: a test that is computed over the whole table, and one law that turns it into what each check claims. Assumes nothing.
+-- P1 to P12 hold in either order: a test that is computed over the whole table, and one law that turns it into what each check claims. Assumes nothing.
 use mathlib.Core.Path.{_≡_, refl}
 use mathlib.Core.Bool.{Bool, true, false, _&&_, not, and-eq-true-iff}
 use mathlib.Core.List.{List, [], _∷_}
 use borrow.Author.Tests.{eqb-true, not-true}
 use lib.Bits.{bitXor}
 use lib.Dec.{eqb}
-use Rattle.words.specs.Word.{part, flat, number, bytesOf, numberAt}
+use Rattle.words.specs.Word.{part, flat, turned, number, bytesOf, numberAt}
+use Rattle.words.specs.Native.{lowNumber, lowBytes}
+use Rattle.words.specs.declared.word.Order.{Order}
+use Rattle.words.specs.declared.word.Order.the-variants.{HighFirst, LowFirst}
+use Rattle.tags.specs.Format.{formatOf}
+use Rattle.tags.specs.declared.format.Format.{Format}
 use Rattle.runs.specs.Run.{repeated, differenceFrom}
 use Rattle.words.specs.Age.{ageOf}
 use Rattle.tags.specs.Tag.{stateWord, tagOf, patternOf, patternWord}
@@ -16,9 +21,9 @@ use Rattle.tags.specs.Verdict.{verdictNumber, verdictValue}
 use Rattle.chunks.specs.declared.chunk.Grant.the-variants as grant
 use Rattle.log.specs.Log.{rowRecord, rowUptime}
 use Rattle.area.specs.Record.{stampOf, recordBytes, stamped, recordWord}
-use Rattle.sheet.specs.Fields.{fieldIs, shaped, sheetOf, sheetBytes, withHead}
+use Rattle.sheet.specs.Fields.{fieldIs, isShort, isLong, shaped, orderNumber, sheetOf, sheetBytes, withHead}
 use Rattle.geometry.specs.Limits.{sizesLawful, basesLawful, lawful}
-use Rattle.sheet.specs.Opening.{measured, numbered, openedOf}
+use Rattle.sheet.specs.Opening.{measured, numbered, ordered, openedOf}
 use Rattle.area.specs.Place.{placeOf}
 use Rattle.verdicts.specs.Judge.{standing, ownedVerdict, chainedVerdict}
 use Rattle.transactions.specs.Latest.{considered, latestRow}
@@ -28,42 +33,43 @@ use Rattle.ledger.specs.Ledger.{allocate, resultOf, put, begun, run}
 use Rattle.ledger.specs.Checks.{Check, tagged, examined, aged, next, ClaimOf, AllClaims, checks}
 use Rattle.ledger.specs.Checks.{freshAreas, refusedAs, rowLatest, freeWith, allocatedWith}
 
-abbrev test : Check → Bool
-test (tagged t0 t1 s) = eqb (bitXor t0 t1) (stateWord s)
-test (examined c a met number value) =
-    eqb (verdictNumber (ownedVerdict c a (standing met false))) number && eqb (verdictValue (ownedVerdict c a (standing met false))) value
-test (aged time first second age₁ age₂) =
-    eqb (ageOf 32 time first) age₁ && (eqb (ageOf 32 time second) age₂ && (rowLatest time first second && not (rowLatest time second first)))
-test (next calls number) = eqb (refusedAs (resultOf (allocate grant.Whole (stampOf 4 7)) (run 24 calls (begun freshAreas) .areas) .answer)) number
+abbrev test : Format → Check → Bool
+test f (tagged t0 t1 s) = eqb (bitXor t0 t1) (stateWord s)
+test f (examined c a met number value) =
+    eqb (verdictNumber (ownedVerdict f c a (standing met false))) number && eqb (verdictValue (ownedVerdict f c a (standing met false))) value
+test f (aged time first second age₁ age₂) =
+    eqb (ageOf 32 time first) age₁ && (eqb (ageOf 32 time second) age₂ && (rowLatest f time first second && not (rowLatest f time second first)))
+test f (next calls number) = eqb (refusedAs (resultOf (allocate grant.Whole (stampOf 4 7)) (run f 24 calls (begun (freshAreas f)) .areas) .answer)) number
 
-holds : (c : Check) → test c ≡ true → ClaimOf c
-holds (tagged t0 t1 s) e = eqb-true (bitXor t0 t1) (stateWord s) e
-holds (examined c a met number value) e =
+holds : (f : Format) (c : Check) → test f c ≡ true → ClaimOf f c
+holds f (tagged t0 t1 s) e = eqb-true (bitXor t0 t1) (stateWord s) e
+holds f (examined c a met number value) e =
     let both = and-eq-true-iff _ _ .0 e in
-    let v = ownedVerdict c a (standing met false) in
+    let v = ownedVerdict f c a (standing met false) in
     (eqb-true (verdictNumber v) number (both .0), eqb-true (verdictValue v) value (both .1))
-holds (aged time first second age₁ age₂) e =
+holds f (aged time first second age₁ age₂) e =
     let one = and-eq-true-iff _ _ .0 e in
     let two = and-eq-true-iff _ _ .0 (one .1) in
     let three = and-eq-true-iff _ _ .0 (two .1) in
-    (eqb-true (ageOf 32 time first) age₁ (one .0), eqb-true (ageOf 32 time second) age₂ (two .0), three .0, not-true (rowLatest time second first) (three .1))
-holds (next calls number) e = eqb-true (refusedAs (resultOf (allocate grant.Whole (stampOf 4 7)) (run 24 calls (begun freshAreas) .areas) .answer)) number e
+    (eqb-true (ageOf 32 time first) age₁ (one .0), eqb-true (ageOf 32 time second) age₂ (two .0), three .0, not-true (rowLatest f time second first) (three .1))
+holds f (next calls number) e = eqb-true (refusedAs (resultOf (allocate grant.Whole (stampOf 4 7)) (run f 24 calls (begun (freshAreas f)) .areas) .answer)) number e
 
-abbrev all : List Check → Bool
-all [] = true
-all (c ∷ cs) = test c && all cs
+abbrev all : Format → List Check → Bool
+all f [] = true
+all f (c ∷ cs) = test f c && all f cs
 
-all-hold : (cs : List Check) → all cs ≡ true → AllClaims cs
-all-hold [] e = tt
-all-hold (c ∷ cs) e = let both = and-eq-true-iff _ _ .0 e in (holds c (both .0), all-hold cs (both .1))
+all-hold : (f : Format) (cs : List Check) → all f cs ≡ true → AllClaims f cs
+all-hold f [] e = tt
+all-hold f (c ∷ cs) e = let both = and-eq-true-iff _ _ .0 e in (holds f c (both .0), all-hold f cs (both .1))
 
-computed : all checks ≡ true
-unfolding checks freeWith allocatedWith freshAreas run put layOutPlan layOutOf laidAreas sheetBytes recordBytes flat linkTo part number bytesOf
-    numberAt repeated differenceFrom tagOf patternOf patternWord decodedOf chunkOf freeChunk grantedChunk tagAt ownedVerdict chainedVerdict
-    rowLatest rowRecord rowUptime considered latestRow freeVerdict allocatedVerdict zoneVerdict sizedVerdict ageOf stamped fieldIs shaped
-    sheetOf withHead measured numbered openedOf lawful sizesLawful basesLawful placeOf recordWord takenChunk takenHead takenOf allocatePlan
+computed : (o : Order) → all (formatOf o) (checks (formatOf o)) ≡ true
+unfolding checks freeWith allocatedWith freshAreas run put layOutPlan layOutOf laidAreas sheetBytes recordBytes flat linkTo part turned number bytesOf
+    lowNumber lowBytes numberAt repeated differenceFrom tagOf patternOf patternWord decodedOf chunkOf freeChunk grantedChunk tagAt ownedVerdict chainedVerdict
+    rowLatest rowRecord rowUptime considered latestRow freeVerdict allocatedVerdict zoneVerdict sizedVerdict ageOf stamped fieldIs isShort isLong shaped
+    orderNumber sheetOf withHead measured numbered ordered openedOf lawful sizesLawful basesLawful placeOf recordWord takenChunk takenHead takenOf allocatePlan
     grantedAreas allocateOf
-computed = refl
+computed HighFirst = refl
+computed LowFirst = refl
 
-pub checks-hold : AllClaims checks
-checks-hold = all-hold checks computed
+pub checks-hold : (o : Order) → AllClaims (formatOf o) (checks (formatOf o))
+checks-hold o = all-hold (formatOf o) (checks (formatOf o)) (computed o)

@@ -1,4 +1,4 @@
--- What a chunk says, free or granted, with any client bytes written over its start: proved once over the buffer size. Assumes nothing.
+-- What a chunk says, free or granted, with any client bytes written over its start: proved once over the buffer size and the format. Assumes nothing.
 use mathlib.Core.Path.{_≡_, refl, sym, ap, _∙_}
 use mathlib.Core.Bool.{true}
 use mathlib.Core.Logic.{_≢_, inr}
@@ -13,11 +13,13 @@ use lib.Bits.{xor-lt}
 use lib.Dec.{lit<}
 use lib.ListN.{length, getD, set, length-set, length-append}
 use lib.Seq.{sets, length-sets, getD-set-same}
-use Rattle.words.specs.Word.{part, number, bytesOf, numberAt}
+use Rattle.words.specs.Word.{part, number, numberAt}
 use Rattle.runs.specs.Run.{repeated}
 use Rattle.words.proofs.Numbers.{length-bytesOf, number-back, numberAt-outside}
 use Rattle.words.proofs.Parts.{getD-part, part-left, part-right, part-all, part-written, part-before, part-after, part-inside, sets-over, sets-same}
-use Rattle.runs.proofs.Runs.{length-repeated, repeated-more, repeated-once, same-nowhere, part-repeated}
+use Rattle.runs.proofs.Runs.{length-repeated, repeated-twice, same-nowhere, part-repeated}
+use Rattle.tags.specs.Format.{wordBytes, wordAt}
+use Rattle.tags.specs.declared.format.Format.{Format}
 use Rattle.tags.specs.Tag.{tagOf, stateWord}
 use Rattle.tags.specs.SizeCode.{codeOf}
 use Rattle.chunks.specs.Chunk.{redzone, freeFill, grantFill, guard, chunkOf, freeChunk, grantedChunk, tagAt, lawfulSize, grantSize}
@@ -38,21 +40,21 @@ last : (p v : List ℕ) (at : ℕ) → length p ≡ at → length v ≡ 4 → pa
 last p v at e f = part-right p v at 0 4 (omega arith) ∙ part-all v 4 f
 
 -- R0's bytes, R1, T0 and T1 of a chunk with a buffer of `size` bytes
-pub record Ends (size : ℕ) (c zone : List ℕ) (r1 t0 t1 : ℕ) : Type 0 where
+pub record Ends (f : Format) (size : ℕ) (c zone : List ℕ) (r1 t0 t1 : ℕ) : Type 0 where
   pub long : length c ≡ size + 16
   pub zoneIs : part c size 4 ≡ zone
-  pub codeIs : numberAt 4 c (size + 4) ≡ r1
-  pub firstIs : numberAt 4 c (size + 8) ≡ t0
-  pub secondIs : numberAt 4 c (size + 12) ≡ t1
+  pub codeIs : wordAt f c (size + 4) ≡ r1
+  pub firstIs : wordAt f c (size + 8) ≡ t0
+  pub secondIs : wordAt f c (size + 12) ≡ t1
 
-pub ends-chunk : (size : ℕ) (b : List ℕ) (r0 r1 t0 t1 : ℕ) → length b ≡ size → r1 < 4294967296 → t0 < 4294967296 → t1 < 4294967296
-    → Ends size (chunkOf b r0 r1 t0 t1) (bytesOf 4 r0) r1 t0 t1
+pub ends-chunk : (f : Format) (size : ℕ) (b : List ℕ) (r0 r1 t0 t1 : ℕ) → length b ≡ size → r1 < 4294967296 → t0 < 4294967296 → t1 < 4294967296
+    → Ends f size (chunkOf f b r0 r1 t0 t1) (wordBytes f r0) r1 t0 t1
 unfolding chunkOf numberAt
-ends-chunk size b r0 r1 t0 t1 e h1 h2 h3 =
-    let z0 = bytesOf 4 r0 in
-    let z1 = bytesOf 4 r1 in
-    let z2 = bytesOf 4 t0 in
-    let z3 = bytesOf 4 t1 in
+ends-chunk f size b r0 r1 t0 t1 e h1 h2 h3 =
+    let z0 = wordBytes f r0 in
+    let z1 = wordBytes f r1 in
+    let z2 = wordBytes f t0 in
+    let z3 = wordBytes f t1 in
     let l1 : length (b ++ z0) ≡ size + 4 = simp (length-append, length-bytesOf) (omega arith) in
     let l2 : length (b ++ z0 ++ z1) ≡ size + 8 = simp (length-append, length-bytesOf) (omega arith) in
     let l3 : length (b ++ z0 ++ z1 ++ z2) ≡ size + 12 = simp (length-append, length-bytesOf) (omega arith) in
@@ -61,32 +63,32 @@ ends-chunk size b r0 r1 t0 t1 e h1 h2 h3 =
       zoneIs = part-left (b ++ z0 ++ z1 ++ z2) z3 size 4 (omega arith)
           ∙ part-left (b ++ z0 ++ z1) z2 size 4 (omega arith)
           ∙ part-left (b ++ z0) z1 size 4 (omega arith)
-          ∙ last b z0 size e (length-bytesOf 4 r0);
-      codeIs = ap number
+          ∙ last b z0 size e (length-bytesOf (f .order) 4 r0);
+      codeIs = ap (number (f .order))
           (part-left (b ++ z0 ++ z1 ++ z2) z3 (size + 4) 4 (omega arith)
           ∙ part-left (b ++ z0 ++ z1) z2 (size + 4) 4 (omega arith)
-          ∙ last (b ++ z0) z1 (size + 4) l1 (length-bytesOf 4 r1))
-          ∙ number-back 4 r1 h1;
-      firstIs = ap number
+          ∙ last (b ++ z0) z1 (size + 4) l1 (length-bytesOf (f .order) 4 r1))
+          ∙ number-back (f .order) 4 r1 h1;
+      firstIs = ap (number (f .order))
           (part-left (b ++ z0 ++ z1 ++ z2) z3 (size + 8) 4 (omega arith)
-          ∙ last (b ++ z0 ++ z1) z2 (size + 8) l2 (length-bytesOf 4 t0))
-          ∙ number-back 4 t0 h2;
-      secondIs = ap number (last (b ++ z0 ++ z1 ++ z2) z3 (size + 12) l3 (length-bytesOf 4 t1)) ∙ number-back 4 t1 h3;
+          ∙ last (b ++ z0 ++ z1) z2 (size + 8) l2 (length-bytesOf (f .order) 4 t0))
+          ∙ number-back (f .order) 4 t0 h2;
+      secondIs = ap (number (f .order)) (last (b ++ z0 ++ z1 ++ z2) z3 (size + 12) l3 (length-bytesOf (f .order) 4 t1)) ∙ number-back (f .order) 4 t1 h3;
     }
 
-module _ {size : ℕ} {c zone : List ℕ} {r1 t0 t1 : ℕ} (e : Ends size c zone r1 t0 t1) where
+module _ {f : Format} {size : ℕ} {c zone : List ℕ} {r1 t0 t1 : ℕ} (e : Ends f size c zone r1 t0 t1) where
   -- a run within the buffer leaves them as they are
-  pub ends-within : (vs : List ℕ) (at : ℕ) → at + length vs ≤ size → Ends size (sets c at vs) zone r1 t0 t1
+  pub ends-within : (vs : List ℕ) (at : ℕ) → at + length vs ≤ size → Ends f size (sets c at vs) zone r1 t0 t1
   ends-within vs at h = record {
     long = length-sets c at vs ∙ e .long;
     zoneIs = part-after vs c at size 4 h ∙ e .zoneIs;
-    codeIs = numberAt-outside 4 vs c at (size + 4) (inr (omega arith)) ∙ e .codeIs;
-    firstIs = numberAt-outside 4 vs c at (size + 8) (inr (omega arith)) ∙ e .firstIs;
-    secondIs = numberAt-outside 4 vs c at (size + 12) (inr (omega arith)) ∙ e .secondIs;
+    codeIs = numberAt-outside (f .order) 4 vs c at (size + 4) (inr (omega arith)) ∙ e .codeIs;
+    firstIs = numberAt-outside (f .order) 4 vs c at (size + 8) (inr (omega arith)) ∙ e .firstIs;
+    secondIs = numberAt-outside (f .order) 4 vs c at (size + 12) (inr (omega arith)) ∙ e .secondIs;
   }
 
   -- a byte behind the buffer is R0's first
-  pub ends-guard : (v : ℕ) → Ends size (set c size v) (set zone 0 v) r1 t0 t1
+  pub ends-guard : (v : ℕ) → Ends f size (set c size v) (set zone 0 v) r1 t0 t1
   ends-guard v =
       let one : size + length (v ∷ []) ≤ size + 4 = omega arith in
       record {
@@ -94,9 +96,9 @@ module _ {size : ℕ} {c zone : List ℕ} {r1 t0 t1 : ℕ} (e : Ends size c zone
         zoneIs = ap (λ (x : ℕ). part (sets c x (v ∷ [])) size 4) (sym (add-zero size))
             ∙ part-inside (v ∷ []) c size 4 0 (omega arith)
             ∙ ap (λ (x : List ℕ). set x 0 v) (e .zoneIs);
-        codeIs = numberAt-outside 4 (v ∷ []) c size (size + 4) (inr one) ∙ e .codeIs;
-        firstIs = numberAt-outside 4 (v ∷ []) c size (size + 8) (inr (omega arith)) ∙ e .firstIs;
-        secondIs = numberAt-outside 4 (v ∷ []) c size (size + 12) (inr (omega arith)) ∙ e .secondIs;
+        codeIs = numberAt-outside (f .order) 4 (v ∷ []) c size (size + 4) (inr one) ∙ e .codeIs;
+        firstIs = numberAt-outside (f .order) 4 (v ∷ []) c size (size + 8) (inr (omega arith)) ∙ e .firstIs;
+        secondIs = numberAt-outside (f .order) 4 (v ∷ []) c size (size + 12) (inr (omega arith)) ∙ e .secondIs;
       }
 
   size-is : length c - 16 ≡ size
@@ -104,67 +106,73 @@ module _ {size : ℕ} {c zone : List ℕ} {r1 t0 t1 : ℕ} (e : Ends size c zone
 
   -- ---- what they say
 
-  pub tag-is : tagAt c ≡ record { t0 = t0; t1 = t1 }
+  pub tag-is : tagAt f c ≡ record { t0 = t0; t1 = t1 }
   unfolding tagAt
   tag-is = rw (size-is, e .firstIs, e .secondIs)
 
 -- a whole grant
-pub whole-sound : {size : ℕ} {c : List ℕ} {t0 t1 : ℕ} → Ends size c (bytesOf 4 redzone) redzone t0 t1 → allocatedVerdict c ≡ Whole
+pub whole-sound : {f : Format} {size : ℕ} {c : List ℕ} {t0 t1 : ℕ} → Ends f size c (wordBytes f redzone) redzone t0 t1 → allocatedVerdict f c ≡ Whole
 unfolding allocatedVerdict zoneVerdict
-whole-sound e = rw (size-is e, e .codeIs, e .zoneIs, same-nowhere (bytesOf 4 redzone))
+whole-sound {f} e = rw (size-is e, e .codeIs, e .zoneIs, same-nowhere (wordBytes f redzone))
 
 -- a grant of s bytes
-pub sized-sound : {size : ℕ} {c : List ℕ} {t0 t1 : ℕ} (s : ℕ) → Ends size c (zoneAfter s size) (codeOf s) t0 t1 → getD c s 0 ≡ guard → 1 ≤ s → s ≤ size
-    → codeOf s ≢ redzone → allocatedVerdict c ≡ Allocated s
+pub sized-sound : {f : Format} {size : ℕ} {c : List ℕ} {t0 t1 : ℕ} (s : ℕ) → Ends f size c (zoneAfter f s size) (codeOf s) t0 t1 → getD c s 0 ≡ guard → 1 ≤ s → s ≤ size
+    → codeOf s ≢ redzone → allocatedVerdict f c ≡ Allocated s
 unfolding allocatedVerdict sizedVerdict zoneVerdict
-sized-sound {size} s e g h k ne =
-    rw (size-is e, e .codeIs, ne-eqb (codeOf s) redzone ne, decode-code s size h k, size-is e, g, e .zoneIs, same-nowhere (zoneAfter s size))
+sized-sound {f} {size} s e g h k ne =
+    rw (size-is e, e .codeIs, ne-eqb (codeOf s) redzone ne, decode-code s size h k, size-is e, g, e .zoneIs, same-nowhere (zoneAfter f s size))
 
 -- the first bytes of a chunk are the buffer's
-pub buffer-part : (b : List ℕ) (r0 r1 t0 t1 k : ℕ) → k ≤ length b → part (chunkOf b r0 r1 t0 t1) 0 k ≡ part b 0 k
+pub buffer-part : (f : Format) (b : List ℕ) (r0 r1 t0 t1 k : ℕ) → k ≤ length b → part (chunkOf f b r0 r1 t0 t1) 0 k ≡ part b 0 k
 unfolding chunkOf
-buffer-part b r0 r1 t0 t1 k h =
-    let z0 = bytesOf 4 r0 in
-    let z1 = bytesOf 4 r1 in
-    let z2 = bytesOf 4 t0 in
-    part-left (b ++ z0 ++ z1 ++ z2) (bytesOf 4 t1) 0 k (simp (length-append, length-bytesOf) (omega arith))
+buffer-part f b r0 r1 t0 t1 k h =
+    let z0 = wordBytes f r0 in
+    let z1 = wordBytes f r1 in
+    let z2 = wordBytes f t0 in
+    part-left (b ++ z0 ++ z1 ++ z2) (wordBytes f t1) 0 k (simp (length-append, length-bytesOf) (omega arith))
     ∙ part-left (b ++ z0 ++ z1) z2 0 k (simp (length-append, length-bytesOf) (omega arith))
     ∙ part-left (b ++ z0) z1 0 k (simp (length-append, length-bytesOf) (omega arith))
     ∙ part-left b z0 0 k (omega arith)
 
 -- and then come R0 and R1
-zones-part : (b : List ℕ) (r0 r1 t0 t1 size : ℕ) → length b ≡ size → part (chunkOf b r0 r1 t0 t1) size 8 ≡ bytesOf 4 r0 ++ bytesOf 4 r1
+zones-part : (f : Format) (b : List ℕ) (r0 r1 t0 t1 size : ℕ) → length b ≡ size → part (chunkOf f b r0 r1 t0 t1) size 8 ≡ wordBytes f r0 ++ wordBytes f r1
 unfolding chunkOf
-zones-part b r0 r1 t0 t1 size e =
-    let z0 = bytesOf 4 r0 in
-    let z1 = bytesOf 4 r1 in
-    let z2 = bytesOf 4 t0 in
-    part-left (b ++ z0 ++ z1 ++ z2) (bytesOf 4 t1) size 8 (simp (length-append, length-bytesOf) (omega arith))
+zones-part f b r0 r1 t0 t1 size e =
+    let z0 = wordBytes f r0 in
+    let z1 = wordBytes f r1 in
+    let z2 = wordBytes f t0 in
+    part-left (b ++ z0 ++ z1 ++ z2) (wordBytes f t1) size 8 (simp (length-append, length-bytesOf) (omega arith))
     ∙ part-left (b ++ z0 ++ z1) z2 size 8 (simp (length-append, length-bytesOf) (omega arith))
     ∙ ap (λ (x : List ℕ). part x size 8) (append-assoc b z0 z1)
     ∙ part-right b (z0 ++ z1) size 0 8 (omega arith)
     ∙ part-all (z0 ++ z1) 8 (simp (length-append, length-bytesOf))
 
-two-zones : bytesOf 4 redzone ++ bytesOf 4 redzone ≡ repeated 8 redzone
-two-zones = ap (λ (x : List ℕ). x ++ bytesOf 4 redzone) (sym (repeated-once redzone)) ∙ sym (repeated-more 4 redzone refl)
-
 -- a free chunk
-free-fill : (size a : ℕ) → part (freeChunk size a) 0 size ≡ repeated size freeFill
+free-fill : (f : Format) (size a : ℕ) → part (freeChunk f size a) 0 size ≡ repeated size (wordBytes f freeFill)
 unfolding freeChunk
-free-fill size a =
-    buffer-part (repeated size freeFill) redzone redzone (tagOf a state.Free .t0) (tagOf a state.Free .t1) size (omega (arith, length-repeated size freeFill))
-    ∙ part-all (repeated size freeFill) size (length-repeated size freeFill)
+free-fill f size a =
+    let b = repeated size (wordBytes f freeFill) in
+    let l : length b ≡ size = length-repeated size (wordBytes f freeFill) in
+    buffer-part f b redzone redzone (tagOf a state.Free .t0) (tagOf a state.Free .t1) size (omega arith) ∙ part-all b size l
 
-free-zone : (size a : ℕ) → part (freeChunk size a) size 8 ≡ repeated 8 redzone
+free-zone : (f : Format) (size a : ℕ) → part (freeChunk f size a) size 8 ≡ repeated 8 (wordBytes f redzone)
 unfolding freeChunk
-free-zone size a =
-    zones-part (repeated size freeFill) redzone redzone (tagOf a state.Free .t0) (tagOf a state.Free .t1) size (length-repeated size freeFill) ∙ two-zones
+free-zone f size a =
+    let fill = wordBytes f freeFill in
+    zones-part f (repeated size fill) redzone redzone (tagOf a state.Free .t0) (tagOf a state.Free .t1) size (length-repeated size fill)
+    ∙ sym (repeated-twice (wordBytes f redzone) (length-bytesOf (f .order) 4 redzone))
 
-pub free-sound : (size a : ℕ) → freeVerdict (freeChunk size a) ≡ Free
+pub free-sound : (f : Format) (size a : ℕ) → freeVerdict f (freeChunk f size a) ≡ Free
 unfolding freeVerdict
-free-sound size a =
-    let l : length (freeChunk size a) - 16 ≡ size = omega (arith, length-freeChunk size a) in
-    rw (l, free-fill size a, same-nowhere (repeated size freeFill), free-zone size a, same-nowhere (repeated 8 redzone))
+free-sound f size a =
+    let l : length (freeChunk f size a) - 16 ≡ size = omega (arith, length-freeChunk f size a) in
+    rw (
+      l,
+      free-fill f size a,
+      same-nowhere (repeated size (wordBytes f freeFill)),
+      free-zone f size a,
+      same-nowhere (repeated 8 (wordBytes f redzone)),
+    )
 
 -- ---- a chunk as the ledger has it
 
@@ -173,31 +181,32 @@ stateFor none = state.Free
 stateFor (some o) = state.Allocated
 
 -- the chunk, with a record at the address a
-abbrev pub chunkFor : ℕ → ℕ → Option Entry → List ℕ
-chunkFor size a none = freeChunk size a
-chunkFor size a (some o) = sets (grantedChunk size a (o .grant)) 0 (o .client)
+abbrev pub chunkFor : Format → ℕ → ℕ → Option Entry → List ℕ
+chunkFor f size a none = freeChunk f size a
+chunkFor f size a (some o) = sets (grantedChunk f size a (o .grant)) 0 (o .client)
 
 -- what is known of an entry
 abbrev pub LawfulEntry : ℕ → Option Entry → Type 0
 LawfulEntry size none = Unit {0}
 LawfulEntry size (some o) = (lawfulSize size (o .grant) ≡ true) × (length (o .client) ≡ grantSize size (o .grant))
 
-module _ (size a : ℕ) (few : size ≤ 4096) (word : a < 4294967296) where
+module _ (f : Format) (size a : ℕ) (few : size ≤ 4096) (word : a < 4294967296) where
   tag-word : (s : State) → tagOf a s .t1 < 4294967296
   unfolding tagOf
   tag-word state.Free = xor-lt 32 a (stateWord state.Free) word (lit< tt)
   tag-word state.Allocated = xor-lt 32 a (stateWord state.Allocated) word (lit< tt)
 
   filled-ends : (fill r1 : ℕ) (s : State) → r1 < 4294967296
-      → Ends size (chunkOf (repeated size fill) redzone r1 (tagOf a s .t0) (tagOf a s .t1)) (bytesOf 4 redzone) r1 (tagOf a s .t0) (tagOf a s .t1)
+      → Ends f size (chunkOf f (repeated size (wordBytes f fill)) redzone r1 (tagOf a s .t0) (tagOf a s .t1)) (wordBytes f redzone) r1 (tagOf a s .t0) (tagOf a s .t1)
   unfolding tagOf
-  filled-ends fill r1 s h = ends-chunk size (repeated size fill) redzone r1 a (tagOf a s .t1) (length-repeated size fill) h word (tag-word s)
+  filled-ends fill r1 s h =
+      ends-chunk f size (repeated size (wordBytes f fill)) redzone r1 a (tagOf a s .t1) (length-repeated size (wordBytes f fill)) h word (tag-word s)
 
-  pub free-ends : Ends size (freeChunk size a) (bytesOf 4 redzone) redzone (tagOf a state.Free .t0) (tagOf a state.Free .t1)
+  pub free-ends : Ends f size (freeChunk f size a) (wordBytes f redzone) redzone (tagOf a state.Free .t0) (tagOf a state.Free .t1)
   unfolding freeChunk
   free-ends = filled-ends freeFill redzone state.Free (lit< tt)
 
-  pub whole-ends : Ends size (grantedChunk size a grant.Whole) (bytesOf 4 redzone) redzone (tagOf a state.Allocated .t0) (tagOf a state.Allocated .t1)
+  pub whole-ends : Ends f size (grantedChunk f size a grant.Whole) (wordBytes f redzone) redzone (tagOf a state.Allocated .t0) (tagOf a state.Allocated .t1)
   unfolding grantedChunk
   whole-ends = filled-ends grantFill redzone state.Allocated (lit< tt)
 
@@ -208,36 +217,36 @@ module _ (size a : ℕ) (few : size ≤ 4096) (word : a < 4294967296) where
   code-other s h e = omega arith
 
   pub sized-ends : (s : ℕ) → s ≤ size
-      → Ends size (grantedChunk size a (grant.Sized s)) (zoneAfter s size) (codeOf s) (tagOf a state.Allocated .t0) (tagOf a state.Allocated .t1)
+      → Ends f size (grantedChunk f size a (grant.Sized s)) (zoneAfter f s size) (codeOf s) (tagOf a state.Allocated .t0) (tagOf a state.Allocated .t1)
   unfolding grantedChunk
   sized-ends s h = go (ℕ-discrete s size)
     where
-      base : Ends size (chunkOf (repeated size grantFill) redzone (codeOf s) (tagOf a state.Allocated .t0) (tagOf a state.Allocated .t1))
-          (bytesOf 4 redzone) (codeOf s) (tagOf a state.Allocated .t0) (tagOf a state.Allocated .t1)
+      base : Ends f size (chunkOf f (repeated size (wordBytes f grantFill)) redzone (codeOf s) (tagOf a state.Allocated .t0) (tagOf a state.Allocated .t1))
+          (wordBytes f redzone) (codeOf s) (tagOf a state.Allocated .t0) (tagOf a state.Allocated .t1)
       base = filled-ends grantFill (codeOf s) state.Allocated (code-small s h)
 
       go : Dec (s ≡ size)
-          → Ends size (set (chunkOf (repeated size grantFill) redzone (codeOf s) (tagOf a state.Allocated .t0) (tagOf a state.Allocated .t1)) s guard)
-          (zoneAfter s size) (codeOf s) (tagOf a state.Allocated .t0) (tagOf a state.Allocated .t1)
+          → Ends f size (set (chunkOf f (repeated size (wordBytes f grantFill)) redzone (codeOf s) (tagOf a state.Allocated .t0) (tagOf a state.Allocated .t1)) s guard)
+          (zoneAfter f s size) (codeOf s) (tagOf a state.Allocated .t0) (tagOf a state.Allocated .t1)
       go (yes e) = rw (eq-eqb s size e, e) (rw e at (ends-guard base guard))
       go (no ne) = rw (ne-eqb s size ne) (ends-within base (guard ∷ []) s (omega arith))
 
   pub granted-tag : (q : Grant) → lawfulSize size q ≡ true → (vs : List ℕ) → length vs ≤ size
-      → tagAt (sets (grantedChunk size a q) 0 vs) ≡ tagOf a state.Allocated
+      → tagAt f (sets (grantedChunk f size a q) 0 vs) ≡ tagOf a state.Allocated
   granted-tag grant.Whole l vs h = tag-is (ends-within whole-ends vs 0 (omega arith))
   granted-tag (grant.Sized s) l vs h = tag-is (ends-within (sized-ends s (lawful-within size s (grant.Sized s) refl l .1)) vs 0 (omega arith))
 
   -- T0 and T1 are the record's
-  pub tag-for : (o : Option Entry) → LawfulEntry size o → tagAt (chunkFor size a o) ≡ tagOf a (stateFor o)
+  pub tag-for : (o : Option Entry) → LawfulEntry size o → tagAt f (chunkFor f size a o) ≡ tagOf a (stateFor o)
   tag-for none l = tag-is free-ends
   tag-for (some o) l = granted-tag (o .grant) (l .0) (o .client) (omega (arith, l .1, grant-within size (o .grant) (l .0)))
 
   -- the guard stands
-  guard-stands : (s : ℕ) → s ≤ size → (vs : List ℕ) → length vs ≡ s → getD (sets (grantedChunk size a (grant.Sized s)) 0 vs) s 0 ≡ guard
+  guard-stands : (s : ℕ) → s ≤ size → (vs : List ℕ) → length vs ≡ s → getD (sets (grantedChunk f size a (grant.Sized s)) 0 vs) s 0 ≡ guard
   unfolding grantedChunk
   guard-stands s h vs e =
-      let c = chunkOf (repeated size grantFill) redzone (codeOf s) (tagOf a state.Allocated .t0) (tagOf a state.Allocated .t1) in
-      let l : length c ≡ size + 16 = length-chunkOf (repeated size grantFill) _ _ _ _ ∙ ap (λ (x : ℕ). x + 16) (length-repeated size grantFill) in
+      let c = chunkOf f (repeated size (wordBytes f grantFill)) redzone (codeOf s) (tagOf a state.Allocated .t0) (tagOf a state.Allocated .t1) in
+      let l : length c ≡ size + 16 = length-chunkOf f (repeated size (wordBytes f grantFill)) _ _ _ _ ∙ ap (λ (x : ℕ). x + 16) (length-repeated size grantFill) in
       ap (λ (x : ℕ). getD (sets (set c s guard) 0 vs) x 0) (sym (add-zero s))
       ∙ sym (getD-part (sets (set c s guard) 0 vs) s 1 0 (omega arith))
       ∙ ap (λ (x : List ℕ). getD x 0 0) (part-after vs (set c s guard) 0 s 1 (omega arith))
@@ -247,48 +256,51 @@ module _ (size a : ℕ) (few : size ≤ 4096) (word : a < 4294967296) where
 
   -- found as granted
   pub granted-verdict : (q : Grant) → lawfulSize size q ≡ true → (vs : List ℕ) → length vs ≡ grantSize size q
-      → allocatedVerdict (sets (grantedChunk size a q) 0 vs) ≡ asGranted q
+      → allocatedVerdict f (sets (grantedChunk f size a q) 0 vs) ≡ asGranted q
   granted-verdict grant.Whole l vs e = whole-sound (ends-within whole-ends vs 0 (omega arith))
   granted-verdict (grant.Sized s) l vs e =
       let w = lawful-within size s (grant.Sized s) refl l in
       sized-sound s (ends-within (sized-ends s (w .1)) vs 0 (omega (arith, w .1))) (guard-stands s (w .1) vs e) (w .0) (w .1) (code-other s (w .1))
 
 -- a fresh entry
-filled-front : (size a r1 k : ℕ) → k ≤ size
-    → part (chunkOf (repeated size grantFill) redzone r1 (tagOf a state.Allocated .t0) (tagOf a state.Allocated .t1)) 0 k ≡ repeated k grantFill
-filled-front size a r1 k h =
-    buffer-part (repeated size grantFill) redzone r1 (tagOf a state.Allocated .t0) (tagOf a state.Allocated .t1) k
-    (omega (arith, length-repeated size grantFill))
-    ∙ part-repeated size k grantFill h
+filled-front : (f : Format) (size a r1 k : ℕ) → k ≤ size
+    → part (chunkOf f (repeated size (wordBytes f grantFill)) redzone r1 (tagOf a state.Allocated .t0) (tagOf a state.Allocated .t1)) 0 k
+    ≡ repeated k (wordBytes f grantFill)
+filled-front f size a r1 k h =
+    let fill = wordBytes f grantFill in
+    buffer-part f (repeated size fill) redzone r1 (tagOf a state.Allocated .t0) (tagOf a state.Allocated .t1) k
+    (omega (arith, length-repeated size fill))
+    ∙ part-repeated size k fill h
 
-granted-front : (size a : ℕ) (q : Grant) → lawfulSize size q ≡ true → part (grantedChunk size a q) 0 (grantSize size q) ≡ repeated (grantSize size q) grantFill
+granted-front : (f : Format) (size a : ℕ) (q : Grant) → lawfulSize size q ≡ true
+    → part (grantedChunk f size a q) 0 (grantSize size q) ≡ repeated (grantSize size q) (wordBytes f grantFill)
 unfolding grantedChunk
-granted-front size a grant.Whole l = filled-front size a redzone size (omega arith)
-granted-front size a (grant.Sized s) l =
-    part-before (guard ∷ []) (chunkOf (repeated size grantFill) redzone (codeOf s) (tagOf a state.Allocated .t0) (tagOf a state.Allocated .t1))
+granted-front f size a grant.Whole l = filled-front f size a redzone size (omega arith)
+granted-front f size a (grant.Sized s) l =
+    part-before (guard ∷ []) (chunkOf f (repeated size (wordBytes f grantFill)) redzone (codeOf s) (tagOf a state.Allocated .t0) (tagOf a state.Allocated .t1))
     s 0 s (omega arith)
-    ∙ filled-front size a (codeOf s) s (lawful-within size s (grant.Sized s) refl l .1)
+    ∙ filled-front f size a (codeOf s) s (lawful-within size s (grant.Sized s) refl l .1)
 
-pub fresh-chunk : (size a : ℕ) (q : Grant) → lawfulSize size q ≡ true → grantedChunk size a q ≡ chunkFor size a (some (fresh size q))
-fresh-chunk size a q l =
-    sym (sets-same (grantedChunk size a q) (grantSize size q) (omega (arith, grant-within size q l, length-grantedChunk size a q)))
-    ∙ ap (λ (x : List ℕ). sets (grantedChunk size a q) 0 x) (granted-front size a q l)
+pub fresh-chunk : (f : Format) (size a : ℕ) (q : Grant) → lawfulSize size q ≡ true → grantedChunk f size a q ≡ chunkFor f size a (some (fresh f size q))
+fresh-chunk f size a q l =
+    sym (sets-same (grantedChunk f size a q) (grantSize size q) (omega (arith, grant-within size q l, length-grantedChunk f size a q)))
+    ∙ ap (λ (x : List ℕ). sets (grantedChunk f size a q) 0 x) (granted-front f size a q l)
 
-pub fresh-lawful : (size : ℕ) (q : Grant) → lawfulSize size q ≡ true → LawfulEntry size (some (fresh size q))
-fresh-lawful size q l = (l, length-repeated (grantSize size q) grantFill)
+pub fresh-lawful : (f : Format) (size : ℕ) (q : Grant) → lawfulSize size q ≡ true → LawfulEntry size (some (fresh f size q))
+fresh-lawful f size q l = (l, length-repeated (grantSize size q) (wordBytes f grantFill))
 
 -- the client bytes
-pub client-part : (size a : ℕ) (o : Entry) → LawfulEntry size (some o) → part (chunkFor size a (some o)) 0 (grantSize size (o .grant)) ≡ o .client
-client-part size a o l =
-    part-written (grantedChunk size a (o .grant)) (o .client) 0 (grantSize size (o .grant)) (l .1)
-    (omega (arith, grant-within size (o .grant) (l .0), length-grantedChunk size a (o .grant)))
+pub client-part : (f : Format) (size a : ℕ) (o : Entry) → LawfulEntry size (some o) → part (chunkFor f size a (some o)) 0 (grantSize size (o .grant)) ≡ o .client
+client-part f size a o l =
+    part-written (grantedChunk f size a (o .grant)) (o .client) 0 (grantSize size (o .grant)) (l .1)
+    (omega (arith, grant-within size (o .grant) (l .0), length-grantedChunk f size a (o .grant)))
 
 -- a store into them
-pub store-chunk : (size a offset : ℕ) (bytes : List ℕ) (o : Entry) → LawfulEntry size (some o) → offset + length bytes ≤ grantSize size (o .grant)
-    → sets (chunkFor size a (some o)) offset bytes ≡ chunkFor size a (overwritten offset bytes (some o))
-store-chunk size a offset bytes o l h =
-    sets-over (grantedChunk size a (o .grant)) (o .client) bytes offset (omega (arith, l .1))
-    (omega (arith, l .1, grant-within size (o .grant) (l .0), length-grantedChunk size a (o .grant)))
+pub store-chunk : (f : Format) (size a offset : ℕ) (bytes : List ℕ) (o : Entry) → LawfulEntry size (some o) → offset + length bytes ≤ grantSize size (o .grant)
+    → sets (chunkFor f size a (some o)) offset bytes ≡ chunkFor f size a (overwritten offset bytes (some o))
+store-chunk f size a offset bytes o l h =
+    sets-over (grantedChunk f size a (o .grant)) (o .client) bytes offset (omega (arith, l .1))
+    (omega (arith, l .1, grant-within size (o .grant) (l .0), length-grantedChunk f size a (o .grant)))
 
 pub store-lawful : (size offset : ℕ) (bytes : List ℕ) (o : Entry) → LawfulEntry size (some o) → LawfulEntry size (overwritten offset bytes (some o))
 store-lawful size offset bytes o l = (l .0, length-sets (o .client) offset bytes ∙ l .1)

@@ -1,10 +1,15 @@
--- An image of two buffers of 8 bytes, laid out and run by evaluation: the claim is not empty. Assumes nothing.
+-- An image of two buffers of 8 bytes, laid out in either order and run by evaluation: the claim is not empty. Assumes nothing.
 use mathlib.Core.Path.{_≡_, refl}
 use mathlib.Core.List.{List, [], _∷_}
 use mathlib.Core.Option.{none, some}
+use Prim.Native.Nat.{ℕ}
 use lib.Dec.{lit<}
 use lib.ListN.{replicate}
-use Rattle.words.specs.Word.{part, flat, number, bytesOf, numberAt}
+use Rattle.words.specs.Word.{part, flat, turned, number, bytesOf, numberAt}
+use Rattle.words.specs.Native.{lowNumber, lowBytes}
+use Rattle.words.specs.declared.word.Order.{Order}
+use Rattle.words.specs.declared.word.Order.the-variants.{HighFirst, LowFirst}
+use Rattle.tags.specs.Format.{formatOf, wordBytes}
 use Rattle.runs.specs.Run.{repeated, differenceFrom}
 use Rattle.tags.specs.Tag.{tagOf, patternWord, patternOf}
 use Rattle.tags.specs.SizeCode.{decodedOf}
@@ -13,9 +18,9 @@ use Rattle.chunks.specs.Judge.{freeVerdict, zoneVerdict, sizedVerdict, allocate
 use Rattle.chunks.specs.declared.chunk.Grant.the-variants as grant
 use Rattle.sheet.specs.Areas.{Areas}
 use Rattle.area.specs.Record.{stampOf, recordBytes, withNext, stamped, recordWord}
-use Rattle.sheet.specs.Fields.{sheetLength, fieldIs, shaped, sheetOf, sheetBytes, withHead}
+use Rattle.sheet.specs.Fields.{sheetLength, fieldIs, isShort, isLong, shaped, orderNumber, sheetOf, sheetBytes, withHead}
 use Rattle.geometry.specs.Limits.{sizesLawful, basesLawful, lawful}
-use Rattle.sheet.specs.Opening.{measured, numbered, openedOf}
+use Rattle.sheet.specs.Opening.{measured, numbered, ordered, openedOf}
 use Rattle.area.specs.Place.{placeOf}
 use Rattle.layout.specs.Layout.{linkTo, laidAreas, layOutPlan, layOutOf}
 use Rattle.geometry.specs.Sheet.{laidSheet}
@@ -35,16 +40,16 @@ areas₀ : Areas
 areas₀ = record { sheet = replicate sheetLength 0; heap = replicate 48 0; records = replicate 192 0 }
 
 -- the lay out is accepted
-laid₀ : layOutOf areas₀ 64 4096 8192 8 2 .answer ≡ done
+laid₀ : (o : Order) → layOutOf areas₀ (formatOf o) 64 4096 8192 8 2 .answer ≡ done
 unfolding areas₀ layOutPlan layOutOf measured numbered lawful sizesLawful basesLawful
-laid₀ = refl
+laid₀ o = refl
 
 -- what a list of calls leaves, and what a call then answers
-state₀ : List Call → RunState
-state₀ calls = run 8 calls (begun (layOutOf areas₀ 64 4096 8192 8 2 .areas))
+state₀ : Order → List Call → RunState
+state₀ o calls = run (formatOf o) 8 calls (begun (layOutOf areas₀ (formatOf o) 64 4096 8192 8 2 .areas))
 
-answer₀ : List Call → Call → Answer
-answer₀ calls call = resultOf call (state₀ calls .areas) .answer
+answer₀ : Order → List Call → Call → Answer
+answer₀ o calls call = resultOf call (state₀ o calls .areas) .answer
 
 -- a grant of 5 bytes, two bytes stored from offset 1 on, a store past the 5 bytes, and a whole grant
 calls₀ : List Call
@@ -56,25 +61,43 @@ calls₁ = allocate (grant.Sized 5) (stampOf 1 7) ∷ allocate grant.Whole (stam
 
 -- what is evaluated: both are out, the first with the bytes stored between those of the fill; there is no room for another; a free with another grant is
 -- refused; after a free the buffer isn't out, and it is the one that is granted next
-record Evaluated : Type 0 where
-  first : state₀ calls₀ .ledger .out 4096 ≡ some (record { grant = grant.Sized 5; client = 0xba ∷ 17 ∷ 18 ∷ 0xfe ∷ 0xba ∷ [] })
-  second : state₀ calls₀ .ledger .out 4120 ≡ some (record { grant = grant.Whole; client = repeated 8 grantFill })
-  granted : state₀ calls₀ .ledger .allocations ≡ 2
-  none-freed : state₀ calls₀ .ledger .frees ≡ 0
-  no-room : answer₀ calls₀ (allocate (grant.Sized 1) (stampOf 4 7)) ≡ answer.Refused NoRoom
-  too-large : answer₀ calls₀ (allocate (grant.Sized 9) (stampOf 4 7)) ≡ answer.Refused BadSize
-  other-grant : answer₀ calls₀ (free 4096 (grant.Sized 6) (stampOf 4 7)) ≡ answer.Refused OtherGrant
-  no-buffer : answer₀ calls₀ (free 4097 (grant.Sized 5) (stampOf 4 7)) ≡ answer.Refused NoSuchBuffer
-  back : state₀ calls₁ .ledger .out 4096 ≡ none
-  freed : state₀ calls₁ .ledger .frees ≡ 1
-  next : answer₀ calls₁ (allocate (grant.Sized 8) (stampOf 4 7)) ≡ answer.Value 4096
+-- the first client's bytes: those of the fill, two of them stored
+client₀ : Order → List ℕ
+client₀ HighFirst = 0xba ∷ 17 ∷ 18 ∷ 0xfe ∷ 0xba ∷ []
+client₀ LowFirst = 0xfe ∷ 17 ∷ 18 ∷ 0xba ∷ 0xfe ∷ []
 
-evaluated : Evaluated
-unfolding areas₀ state₀ answer₀ calls₀ calls₁ run put layOutPlan layOutOf lawful sizesLawful basesLawful laidAreas sheetBytes recordBytes flat linkTo
-    part number bytesOf numberAt repeated differenceFrom tagOf patternWord patternOf decodedOf chunkOf freeChunk grantedChunk tagAt freeVerdict
-    zoneVerdict sizedVerdict allocatedVerdict withNext stamped fieldIs shaped sheetOf withHead measured numbered openedOf placeOf recordWord
+record Evaluated (o : Order) : Type 0 where
+  first : state₀ o calls₀ .ledger .out 4096 ≡ some (record { grant = grant.Sized 5; client = client₀ o })
+  second : state₀ o calls₀ .ledger .out 4120 ≡ some (record { grant = grant.Whole; client = repeated 8 (wordBytes (formatOf o) grantFill) })
+  granted : state₀ o calls₀ .ledger .allocations ≡ 2
+  none-freed : state₀ o calls₀ .ledger .frees ≡ 0
+  no-room : answer₀ o calls₀ (allocate (grant.Sized 1) (stampOf 4 7)) ≡ answer.Refused NoRoom
+  too-large : answer₀ o calls₀ (allocate (grant.Sized 9) (stampOf 4 7)) ≡ answer.Refused BadSize
+  other-grant : answer₀ o calls₀ (free 4096 (grant.Sized 6) (stampOf 4 7)) ≡ answer.Refused OtherGrant
+  no-buffer : answer₀ o calls₀ (free 4097 (grant.Sized 5) (stampOf 4 7)) ≡ answer.Refused NoSuchBuffer
+  back : state₀ o calls₁ .ledger .out 4096 ≡ none
+  freed : state₀ o calls₁ .ledger .frees ≡ 1
+  next : answer₀ o calls₁ (allocate (grant.Sized 8) (stampOf 4 7)) ≡ answer.Value 4096
+
+evaluated : (o : Order) → Evaluated o
+unfolding areas₀ state₀ answer₀ calls₀ calls₁ client₀ run put layOutPlan layOutOf lawful sizesLawful basesLawful laidAreas sheetBytes recordBytes flat linkTo
+    part turned number bytesOf lowNumber lowBytes numberAt repeated differenceFrom tagOf patternWord patternOf decodedOf chunkOf freeChunk grantedChunk tagAt freeVerdict
+    zoneVerdict sizedVerdict allocatedVerdict withNext stamped fieldIs isShort isLong shaped orderNumber sheetOf withHead measured numbered ordered openedOf placeOf recordWord
     takenChunk takenHead takenOf allocatePlan grantedAreas allocateOf heldChunk heldOf freePlan freedAreas freeOf storePlan storedAreas storeOf
-evaluated = record {
+evaluated HighFirst = record {
+  first = refl;
+  second = refl;
+  granted = refl;
+  none-freed = refl;
+  no-room = refl;
+  too-large = refl;
+  other-grant = refl;
+  no-buffer = refl;
+  back = refl;
+  freed = refl;
+  next = refl;
+}
+evaluated LowFirst = record {
   first = refl;
   second = refl;
   granted = refl;
@@ -89,6 +112,6 @@ evaluated = record {
 }
 
 -- the claim holds of this image and these calls
-sound₀ : Sound (laidSheet 64 4096 8192 8 2) (state₀ calls₀)
+sound₀ : (o : Order) → Sound (laidSheet (formatOf o) 64 4096 8192 8 2) (state₀ o calls₀)
 unfolding state₀
-sound₀ = theorem areas₀ 64 4096 8192 8 2 (lit< tt) laid₀ calls₀
+sound₀ o = theorem areas₀ (formatOf o) 64 4096 8192 8 2 (lit< tt) (laid₀ o) calls₀

@@ -14,6 +14,7 @@ use Rattle.words.proofs.Sums.{total-same}
 use Rattle.tags.specs.Tag.{tagOf, patternOf}
 use Rattle.chunks.specs.Chunk.{tagAt}
 use Rattle.tags.specs.Verdict.{verdictNumber, isFault}
+use Rattle.tags.specs.declared.format.Format.{Format}
 use Rattle.tags.specs.declared.tag.Tag.{Tag}
 use Rattle.chunks.specs.declared.chunk.Grant.{Grant}
 use Rattle.chunks.specs.declared.chunk.Grant.the-variants as grant
@@ -54,23 +55,23 @@ namers-one word (suc m) a i l e h = go (ℕ-discrete i m) (namers-one word m a i
 
 -- ---- the tag and the verdict of a chunk as the ledger has it
 
-module _ (size a : ℕ) (few : size ≤ 4096) (word : a < 4294967296) where
-  pub first-for : (o : Option Entry) → LawfulEntry size o → tagAt (chunkFor size a o) .t0 ≡ a
+module _ (f : Format) (size a : ℕ) (few : size ≤ 4096) (word : a < 4294967296) where
+  pub first-for : (o : Option Entry) → LawfulEntry size o → tagAt f (chunkFor f size a o) .t0 ≡ a
   unfolding tagOf
-  first-for o l = ap (λ (t : Tag). t .t0) (tag-for size a few word o l)
+  first-for o l = ap (λ (t : Tag). t .t0) (tag-for f size a few word o l)
 
-  pub pattern-for : (o : Option Entry) → LawfulEntry size o → patternOf (tagAt (chunkFor size a o)) ≡ statePattern (stateFor o)
-  pattern-for o l = ap patternOf (tag-for size a few word o l) ∙ tag-pattern a (stateFor o)
+  pub pattern-for : (o : Option Entry) → LawfulEntry size o → patternOf (tagAt f (chunkFor f size a o)) ≡ statePattern (stateFor o)
+  pattern-for o l = ap patternOf (tag-for f size a few word o l) ∙ tag-pattern a (stateFor o)
 
   owned-for : (o : Option Entry) → LawfulEntry size o → (k : ℕ) → k + outs o ≡ 1
-      → ownedVerdict (chunkFor size a o) a (standing (not (eqb k 0)) false) ≡ asEntered o
+      → ownedVerdict f (chunkFor f size a o) a (standing (not (eqb k 0)) false) ≡ asEntered o
   unfolding ownedVerdict chainedVerdict
   owned-for none l k e =
       let q : k ≡ 1 = omega arith in
-      rw (pattern-for none l, first-for none l, eq-eqb a a refl, q) (free-sound size a)
+      rw (pattern-for none l, first-for none l, eq-eqb a a refl, q) (free-sound f size a)
   owned-for (some o) l k e =
       let q : k ≡ 0 = omega arith in
-      rw (pattern-for (some o) l, first-for (some o) l, eq-eqb a a refl, q) (granted-verdict size a few word (o .grant) (l .0) (o .client) (l .1))
+      rw (pattern-for (some o) l, first-for (some o) l, eq-eqb a a refl, q) (granted-verdict f size a few word (o .grant) (l .0) (o .client) (l .1))
 
 -- what the ledger says is no fault, and is found allocated if it is out
 granted-sound : (q : Grant) → isFault (verdictNumber (asGranted q)) ≡ false
@@ -90,7 +91,7 @@ module _ (g : Sheet) (laid : Laid g) {head : ℕ} {a : Areas} {out : ℕ → Opt
   unfolding ownIn
   own-is i h =
       ap theOne
-      (namers-one (addressWord (a .records)) (g .count) (bufferAddress g i) i h (v .names i h)
+      (namers-one (addressWord (g .format) (a .records)) (g .count) (bufferAddress g i) i h (v .names i h)
       (λ j k ne e. ne (address-one (g .«heap_base») (g .chunk) j i (chunk-some g laid) (sym (v .names j k) ∙ e))))
 
   pub chain-is : chainOf image ≡ record { met = chain; ending = End }
@@ -100,7 +101,7 @@ module _ (g : Sheet) (laid : Laid g) {head : ℕ} {a : Areas} {out : ℕ → Opt
   unfolding verdictOf
   verdict-is i h =
       rw (own-is i h, chain-is, v .chunks i h)
-      (owned-for (g .size) (recordAddress g i) (laid .law .sizes .most) (record-fits g laid i h)
+      (owned-for (g .format) (g .size) (recordAddress g i) (laid .law .sizes .most) (record-fits g laid i h)
       (out (bufferAddress g i)) (v .entries i h) (occ i chain) (v .each i h))
 
 granted-one : (q : Grant) → allocatedOne (asGranted q) ≡ 1

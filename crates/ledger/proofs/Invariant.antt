@@ -41,11 +41,11 @@ pub record Invariant (g : Sheet) (head : ℕ) (a : Areas) (out : ℕ → Option 
   pub sheetIs : a .sheet ≡ sheetBytes (headed g head)
   pub heapLong : length (a .heap) ≡ heapLength g
   pub recordsLong : length (a .records) ≡ recordsLength g
-  pub linked : Linked (nextWord (a .records)) (g .«record_base») (g .count) head chain
+  pub linked : Linked (nextWord (g .format) (a .records)) (g .«record_base») (g .count) head chain
   pub each : (j : ℕ) → j < g .count → occ j chain + outs (out (bufferAddress g j)) ≡ 1
   pub only : (j : ℕ) → g .count ≤ j → occ j chain ≡ 0
-  pub chunks : (j : ℕ) → j < g .count → chunkIn g (a .heap) j ≡ chunkFor (g .size) (recordAddress g j) (out (bufferAddress g j))
-  pub names : (j : ℕ) → j < g .count → addressWord (a .records) j ≡ bufferAddress g j
+  pub chunks : (j : ℕ) → j < g .count → chunkIn g (a .heap) j ≡ chunkFor (g .format) (g .size) (recordAddress g j) (out (bufferAddress g j))
+  pub names : (j : ℕ) → j < g .count → addressWord (g .format) (a .records) j ≡ bufferAddress g j
   pub entries : (j : ℕ) → j < g .count → LawfulEntry (g .size) (out (bufferAddress g j))
   pub stray : (x : ℕ) → bufferOf g x ≡ Nowhere → out x ≡ none
 
@@ -107,7 +107,7 @@ module _ (g : Sheet) (laid : Laid g) where
     pub opens : opening a ≡ opened.Sheet (headed g head)
     opens =
         rw (v .sheetIs)
-        (sheet-opens (headed g head) (length (a .heap)) (length (a .records)) (fits head (head-fits (nextWord (a .records)) head chain (v .linked)))
+        (sheet-opens (headed g head) (length (a .heap)) (length (a .records)) (fits head (head-fits (nextWord (g .format) (a .records)) head chain (v .linked)))
         (passed-headed head) (v .heapLong) (v .recordsLong))
 
     -- no record is in the list twice

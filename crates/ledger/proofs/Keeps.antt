@@ -61,35 +61,35 @@ module _ (g : Sheet) (laid : Laid g) where
 
   pub granted-keeps : {head : ℕ} {a : Areas} {out : ℕ → Option Entry} {j : ℕ} {js : List ℕ} (q : Grant) (t : Stamp) → lawfulSize (g .size) q ≡ true
       → Invariant g head a out (j ∷ js)
-      → Invariant g (nextWord (a .records) j) (grantedAreas a q t (pairAt g laid head j)) (put (bufferAddress g j) (some (fresh (g .size) q)) out) js
+      → Invariant g (nextWord (g .format) (a .records) j) (grantedAreas a q t (pairAt g laid head j)) (put (bufferAddress g j) (some (fresh (g .format) (g .size) q)) out) js
   unfolding grantedAreas
   granted-keeps {head} {a} {out} {j} {js} q t l v =
       let h : j < g .count = taken-below g laid v in
       let at : head ≡ recordAddress g j = first-address g laid _ head j js (v .linked) in
-      let new : Option Entry = some (fresh (g .size) q) in
-      let c = grantedChunk (g .size) head q in
-      let long : length c ≡ g .size + 16 = length-grantedChunk (g .size) head q in
+      let new : Option Entry = some (fresh (g .format) (g .size) q) in
+      let c = grantedChunk (g .format) (g .size) head q in
+      let long : length c ≡ g .size + 16 = length-grantedChunk (g .format) (g .size) head q in
       let heap = sets (a .heap) (j * g .chunk) c in
-      let r = stamped (a .records) j t in
+      let r = stamped (g .format) (a .records) j t in
       record {
-        sheetIs = rw (v .sheetIs) (sheet-head (headed g head) (nextWord (a .records) j));
+        sheetIs = rw (v .sheetIs) (sheet-head (headed g head) (nextWord (g .format) (a .records) j));
         heapLong = length-sets (a .heap) (j * g .chunk) c ∙ v .heapLong;
-        recordsLong = length-stamped (a .records) j t ∙ v .recordsLong;
-        linked = linked-same (nextWord (a .records)) (nextWord r) (g .«record_base») (g .count) (nextWord (a .records) j) js
-            (λ i m. sym (stamped-word (a .records) j t i nextAt (omega arith)))
-            (rest-linked g laid (nextWord (a .records)) head j js (v .linked));
+        recordsLong = length-stamped (g .format) (a .records) j t ∙ v .recordsLong;
+        linked = linked-same (nextWord (g .format) (a .records)) (nextWord (g .format) r) (g .«record_base») (g .count) (nextWord (g .format) (a .records) j) js
+            (λ i m. sym (stamped-word (g .format) (a .records) j t i nextAt (omega arith)))
+            (rest-linked g laid (nextWord (g .format) (a .records)) head j js (v .linked));
         each = each-entry j new out (λ i x. occ i js + outs x ≡ 1)
             (omega (arith, v .each j h, occ-here j js))
             (λ i k ne. omega (arith, v .each i k, occ-apart i j js ne));
         only = λ i k. omega (arith, v .only i k, occ-cons i j js);
-        chunks = each-entry j new out (λ i x. chunkIn g heap i ≡ chunkFor (g .size) (recordAddress g i) x)
+        chunks = each-entry j new out (λ i x. chunkIn g heap i ≡ chunkFor (g .format) (g .size) (recordAddress g i) x)
             (same-chunk c (a .heap) j long (v .heapLong) h
-            ∙ ap (λ (x : ℕ). grantedChunk (g .size) x q) at
-            ∙ fresh-chunk (g .size) (recordAddress g j) q l)
+            ∙ ap (λ (x : ℕ). grantedChunk (g .format) (g .size) x q) at
+            ∙ fresh-chunk (g .format) (g .size) (recordAddress g j) q l)
             (λ i k ne. whole-chunk c (a .heap) (g .chunk) i j (omega (arith, laid .law .sizes .chunks)) ne ∙ v .chunks i k);
-        names = λ i k. stamped-word (a .records) j t i bufferAt (omega arith) ∙ v .names i k;
+        names = λ i k. stamped-word (g .format) (a .records) j t i bufferAt (omega arith) ∙ v .names i k;
         entries = each-entry j new out (λ i x. LawfulEntry (g .size) x)
-            (fresh-lawful (g .size) q l) (λ i k ne. v .entries i k);
+            (fresh-lawful (g .format) (g .size) q l) (λ i k ne. v .entries i k);
         stray = λ x e. stray-entry j new out x h e ∙ v .stray x e;
       }
 
@@ -99,34 +99,34 @@ module _ (g : Sheet) (laid : Laid g) where
       → Invariant g (recordAddress g j) (freedAreas a t (pairAt g laid head j)) (put (bufferAddress g j) none out) (j ∷ chain)
   unfolding freedAreas Linked
   freed-keeps {head} {a} {out} {chain} j o t v h e =
-      let c = freeChunk (g .size) (recordAddress g j) in
-      let long : length c ≡ g .size + 16 = length-freeChunk (g .size) (recordAddress g j) in
+      let c = freeChunk (g .format) (g .size) (recordAddress g j) in
+      let long : length c ≡ g .size + 16 = length-freeChunk (g .format) (g .size) (recordAddress g j) in
       let heap = sets (a .heap) (j * g .chunk) c in
-      let before = withNext (a .records) j head in
-      let r = stamped before j t in
+      let before = withNext (g .format) (a .records) j head in
+      let r = stamped (g .format) before j t in
       let gone : occ j chain ≡ 0 = omega (arith, v .each j h, ap outs e) in
-      let leads : nextWord r j ≡ head
-      = stamped-word before j t j nextAt (omega arith)
-      ∙ next-same (a .records) j head (head-fits g laid (nextWord (a .records)) head chain (v .linked))
+      let leads : nextWord (g .format) r j ≡ head
+      = stamped-word (g .format) before j t j nextAt (omega arith)
+      ∙ next-same (g .format) (a .records) j head (head-fits g laid (nextWord (g .format) (a .records)) head chain (v .linked))
       (omega (arith, v .recordsLong, record-inside g (laid .law) j h)) in
-      let kept : Linked (nextWord r) (g .«record_base») (g .count) head chain
-      = linked-same (nextWord (a .records)) (nextWord r) (g .«record_base») (g .count) head chain
+      let kept : Linked (nextWord (g .format) r) (g .«record_base») (g .count) head chain
+      = linked-same (nextWord (g .format) (a .records)) (nextWord (g .format) r) (g .«record_base») (g .count) head chain
       (λ i m. sym
-      (stamped-word before j t i nextAt (omega arith) ∙ next-other (a .records) j head i (λ q. m (ap (λ (x : ℕ). occ x chain) q ∙ gone))))
+      (stamped-word (g .format) before j t i nextAt (omega arith) ∙ next-other (g .format) (a .records) j head i (λ q. m (ap (λ (x : ℕ). occ x chain) q ∙ gone))))
       (v .linked) in
       record {
         sheetIs = rw (v .sheetIs) (sheet-head (headed g head) (recordAddress g j));
         heapLong = length-sets (a .heap) (j * g .chunk) c ∙ v .heapLong;
-        recordsLong = length-stamped before j t ∙ length-withNext (a .records) j head ∙ v .recordsLong;
-        linked = (h, (refl, subst (λ (x : ℕ). Linked (nextWord r) (g .«record_base») (g .count) x chain) (sym leads) kept));
+        recordsLong = length-stamped (g .format) before j t ∙ length-withNext (g .format) (a .records) j head ∙ v .recordsLong;
+        linked = (h, (refl, subst (λ (x : ℕ). Linked (nextWord (g .format) r) (g .«record_base») (g .count) x chain) (sym leads) kept));
         each = each-entry j none out (λ i x. occ i (j ∷ chain) + outs x ≡ 1)
             (omega (arith, occ-here j chain))
             (λ i k ne. omega (arith, v .each i k, occ-apart i j chain ne));
         only = λ i k. let ne : i ≢ j = omega arith in omega (arith, v .only i k, occ-apart i j chain ne);
-        chunks = each-entry j none out (λ i x. chunkIn g heap i ≡ chunkFor (g .size) (recordAddress g i) x)
+        chunks = each-entry j none out (λ i x. chunkIn g heap i ≡ chunkFor (g .format) (g .size) (recordAddress g i) x)
             (same-chunk c (a .heap) j long (v .heapLong) h)
             (λ i k ne. whole-chunk c (a .heap) (g .chunk) i j (omega (arith, laid .law .sizes .chunks)) ne ∙ v .chunks i k);
-        names = λ i k. stamped-word before j t i bufferAt (omega arith) ∙ next-name (a .records) j head i ∙ v .names i k;
+        names = λ i k. stamped-word (g .format) before j t i bufferAt (omega arith) ∙ next-name (g .format) (a .records) j head i ∙ v .names i k;
         entries = each-entry j none out (λ i x. LawfulEntry (g .size) x) tt (λ i k ne. v .entries i k);
         stray = λ x q. stray-entry j none out x h q ∙ v .stray x q;
       }
@@ -148,10 +148,10 @@ module _ (g : Sheet) (laid : Laid g) where
         each = each-entry j new out (λ i x. occ i chain + outs x ≡ 1)
             (omega (arith, v .each j h, ap outs e)) (λ i k ne. v .each i k);
         only = v .only;
-        chunks = each-entry j new out (λ i x. chunkIn g heap i ≡ chunkFor (g .size) (recordAddress g i) x)
+        chunks = each-entry j new out (λ i x. chunkIn g heap i ≡ chunkFor (g .format) (g .size) (recordAddress g i) x)
             (part-inside bytes (a .heap) (j * g .chunk) (g .chunk) offset inside
             ∙ ap (λ (x : List ℕ). sets x offset bytes) (chunk-is g laid v j h (some o) e)
-            ∙ store-chunk (g .size) (recordAddress g j) offset bytes o l fits)
+            ∙ store-chunk (g .format) (g .size) (recordAddress g j) offset bytes o l fits)
             (λ i k ne. other-chunk bytes (a .heap) (g .chunk) i j offset inside ne ∙ v .chunks i k);
         names = v .names;
         entries = each-entry j new out (λ i x. LawfulEntry (g .size) x)

@@ -10,6 +10,7 @@ use lib.ListN.{length}
 use Rattle.words.specs.Word.{flat}
 use Rattle.words.proofs.Parts.{length-flat, part-flat}
 use Rattle.tags.specs.Refusal.{done}
+use Rattle.tags.specs.declared.format.Format.{Format}
 use Rattle.tags.specs.declared.refusal.Refusal.the-variants.{BadSheet, BadNumber, BadLength}
 use Rattle.tags.specs.declared.refusal.Answer.{Answer}
 use Rattle.tags.specs.declared.refusal.Answer.the-variants.{Refused}
@@ -37,17 +38,17 @@ module _ (g : Sheet) (laid : Laid g) where
       go (yes h) = omega (arith, link-in g i h, record-fits g laid i h)
       go (no h) = omega (arith, link-out g i (omega arith))
 
-  laid-next : (j : ℕ) → j < g .count → nextWord (flat (g .count) (laidRecord g)) j ≡ linkTo g (suc j)
+  laid-next : (j : ℕ) → j < g .count → nextWord (g .format) (flat (g .count) (laidRecord g)) j ≡ linkTo g (suc j)
   laid-next j h =
-      flat-word (laidRecord g) (laid-record-long g) (g .count) j nextAt h (omega arith)
-      ∙ whole-next (linkTo g (suc j)) (bufferAddress g j) (g .cache) (link-fits (suc j))
+      flat-word (g .format) (laidRecord g) (laid-record-long g) (g .count) j nextAt h (omega arith)
+      ∙ whole-next (g .format) (linkTo g (suc j)) (bufferAddress g j) (g .cache) (link-fits (suc j))
 
-  laid-name : (j : ℕ) → j < g .count → addressWord (flat (g .count) (laidRecord g)) j ≡ bufferAddress g j
+  laid-name : (j : ℕ) → j < g .count → addressWord (g .format) (flat (g .count) (laidRecord g)) j ≡ bufferAddress g j
   laid-name j h =
-      flat-word (laidRecord g) (laid-record-long g) (g .count) j bufferAt h (omega arith)
-      ∙ whole-name (linkTo g (suc j)) (bufferAddress g j) (g .cache) (omega (arith, buffer-word g (laid .law) j h, chunk-some g laid))
+      flat-word (g .format) (laidRecord g) (laid-record-long g) (g .count) j bufferAt h (omega arith)
+      ∙ whole-name (g .format) (linkTo g (suc j)) (bufferAddress g j) (g .cache) (omega (arith, buffer-word g (laid .law) j h, chunk-some g laid))
 
-  laid-linked : (i m : ℕ) → i + m ≡ g .count → Linked (nextWord (flat (g .count) (laidRecord g))) (g .«record_base») (g .count) (linkTo g i) (range i m)
+  laid-linked : (i m : ℕ) → i + m ≡ g .count → Linked (nextWord (g .format) (flat (g .count) (laidRecord g))) (g .«record_base») (g .count) (linkTo g i) (range i m)
   unfolding Linked range
   laid-linked i zero e = link-out g i (omega arith)
   laid-linked i (suc m) e =
@@ -55,7 +56,7 @@ module _ (g : Sheet) (laid : Laid g) where
         h,
         (
           link-in g i h,
-          subst (λ (x : ℕ). Linked (nextWord (flat (g .count) (laidRecord g))) (g .«record_base») (g .count) x (range (suc i) m)) (sym (laid-next i h))
+          subst (λ (x : ℕ). Linked (nextWord (g .format) (flat (g .count) (laidRecord g))) (g .«record_base») (g .count) x (range (suc i) m)) (sym (laid-next i h))
               (laid-linked (suc i) m (omega arith)),
         ),
       )
@@ -66,7 +67,7 @@ module _ (g : Sheet) (laid : Laid g) where
     sheetIs = refl;
     heapLong = length-flat (g .chunk) (laidChunk g) (laid-chunk-long g (laid .law)) (g .count);
     recordsLong = length-flat recordSize (laidRecord g) (laid-record-long g) (g .count);
-    linked = subst (λ (x : ℕ). Linked (nextWord (flat (g .count) (laidRecord g))) (g .«record_base») (g .count) x (range 0 (g .count)))
+    linked = subst (λ (x : ℕ). Linked (nextWord (g .format) (flat (g .count) (laidRecord g))) (g .«record_base») (g .count) x (range 0 (g .count)))
         (link-in g 0 (laid .law .sizes .some) ∙ omega arith)
         (laid-linked 0 (g .count) (omega arith));
     each = λ j h. omega (arith, occ-within 0 (g .count) j (omega arith) (omega arith));
@@ -89,17 +90,17 @@ three true false r a g e = absurd (let z : _≡_ {A = ℕ} 0 1 = cc in omega ari
 three false q r a g e = absurd (let z : _≡_ {A = ℕ} 0 1 = cc in omega arith)
 
 -- its numbers passed, and its areas are those of the image laid out
-pub accepted : (a : Areas) (cache heap records size n : ℕ) → layOutOf a cache heap records size n .answer ≡ done
-    → (lawful (laidSheet cache heap records size n) ≡ true) × (layOutOf a cache heap records size n .areas ≡ laidAreas (laidSheet cache heap records size n))
+pub accepted : (a : Areas) (f : Format) (cache heap records size n : ℕ) → layOutOf a f cache heap records size n .answer ≡ done
+    → (lawful (laidSheet f cache heap records size n) ≡ true) × (layOutOf a f cache heap records size n .areas ≡ laidAreas (laidSheet f cache heap records size n))
 unfolding layOutOf layOutPlan numbered measured
-accepted a cache heap records size n e =
-    three (eqb (length (a .sheet)) sheetLength) (lawful (laidSheet cache heap records size n))
-    (lengthsRight (laidSheet cache heap records size n) (length (a .heap)) (length (a .records))) a (laidSheet cache heap records size n) e
+accepted a f cache heap records size n e =
+    three (eqb (length (a .sheet)) sheetLength) (lawful (laidSheet f cache heap records size n))
+    (lengthsRight (laidSheet f cache heap records size n) (length (a .heap)) (length (a .records))) a (laidSheet f cache heap records size n) e
 
-pub laid-known : (cache heap records size n : ℕ) → cache < 4294967296 → lawful (laidSheet cache heap records size n) ≡ true
-    → Laid (laidSheet cache heap records size n)
-laid-known cache heap records size n h e = record {
-  law = lawful-known (laidSheet cache heap records size n) e;
+pub laid-known : (f : Format) (cache heap records size n : ℕ) → cache < 4294967296 → lawful (laidSheet f cache heap records size n) ≡ true
+    → Laid (laidSheet f cache heap records size n)
+laid-known f cache heap records size n h e = record {
+  law = lawful-known (laidSheet f cache heap records size n) e;
   passed = e;
   cacheFits = h;
   flagsFit = lit< tt;

@@ -138,8 +138,8 @@ module _ (g : Sheet) (laid : Laid g) where
 
 -- the theorem of "The ledger of demand 3"
 pub theorem : Claim
-theorem a cache heap records size n h e calls =
-    let k = accepted a cache heap records size n e in
-    let g = laidSheet cache heap records size n in
-    let laid : Laid g = laid-known cache heap records size n h (k .0) in
+theorem a f cache heap records size n h e calls =
+    let k = accepted a f cache heap records size n e in
+    let g = laidSheet f cache heap records size n in
+    let laid : Laid g = laid-known f cache heap records size n h (k .0) in
     rw (k .1) (sound g laid _ (run-keeps g laid calls _ (begun-keeps g laid refl)))

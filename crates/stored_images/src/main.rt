@@ -1,4 +1,4 @@
-// The reports of a set of stored images, one behind the other: images of the dump's geometry, 456 bytes each with no log, from
+// The reports of a set of stored images, one behind the other, in either order: images of the dump's geometry, 460 bytes each with no log, from
 // standard input. What it writes is held to the text that the second program makes of the same images.
 ghost use mathlib.Core.Path.{_≡_};
 ghost use Prim.Native.Nat.{_≤_};
@@ -48,7 +48,7 @@ fn tell(sheet: &[u8], heap: &[u8], records: &[u8], log: &[u8]) {
 
 // The same of an image whose areas stand one behind the other.
 fn tell_image(image: &[u8])
-    requires { ⌜ length (now image) ≡ 456 ⌝ }
+    requires { ⌜ length (now image) ≡ 460 ⌝ }
 {
     tell(
         &image[0..HEAP],

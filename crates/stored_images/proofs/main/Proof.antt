@@ -7,7 +7,7 @@ use Rattle.stored_images.proofs.main.Statement.{statement}
 use Rattle.stored_images.proofs.main.Tie as tie
 
 abbrev Inv-loop : tie.InvT-loop
-Inv-loop image₀ i₀ image i = (i ≤ 64) × (length image ≡ 456)
+Inv-loop image₀ i₀ image i = (i ≤ 64) × (length image ≡ 460)
 
 abbrev μ-loop : tie.MeasureT-loop
 μ-loop image₀ i₀ image i = 64 - i
