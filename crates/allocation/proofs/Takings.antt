@@ -26,7 +26,8 @@ use Rattle.allocation.specs.declared.allocate.AllocatePlan.{AllocatePlan
 use Rattle.allocation.specs.declared.allocate.AllocatePlan.the-variants.{Take, Refused}
 
 -- the chunk of the buffer that the head record names decides
-pub head-taken : (m : Image) (i j : ℕ) → recordOf (m .sheet) (m .sheet .head) ≡ At j → bufferOf (m .sheet) (addressWord (m .sheet .format) (m .records) j) ≡ At i
+pub head-taken : (m : Image) (i j : ℕ) → recordOf (m .sheet) (m .sheet .head) ≡ At j
+    → bufferOf (m .sheet) (addressWord (m .sheet .format) (m .records) j) ≡ At i
     → takenHead m ≡ takenChunk (chunkAt m i) (spot (m .sheet) i j)
 unfolding takenHead
 head-taken m i j e f = rw (e, f)
