@@ -26,7 +26,8 @@ use Rattle.allocation.specs.declared.allocate.AllocatePlan.{AllocatePlan
 use Rattle.allocation.specs.declared.allocate.AllocatePlan.the-variants.{Take, Refused}
 
 -- the chunk of the buffer that the head record names decides
-pub head-taken : (m : Image) (i j : ℕ) → recordOf (m .sheet) (m .sheet .head) ≡ At j → bufferOf (m .sheet) (addressWord (m .records) j) ≡ At i
+pub head-taken : (m : Image) (i j : ℕ) → recordOf (m .sheet) (m .sheet .head) ≡ At j
+    → bufferOf (m .sheet) (addressWord (m .sheet .format) (m .records) j) ≡ At i
     → takenHead m ≡ takenChunk (chunkAt m i) (spot (m .sheet) i j)
 unfolding takenHead
 head-taken m i j e f = rw (e, f)
@@ -39,7 +40,7 @@ TakenIf a q (Refused why) = Unit {0}
 taken-by : (a : Areas) (q : Grant) (t : Pattern) (c : List ℕ) (p : Spot) → byLengths Takes a q p → TakenIf a q (takenBy t c p)
 taken-by a q pattern.Neither c p k = tt
 taken-by a q pattern.Allocated c p k = tt
-taken-by a q pattern.Free c p k = by-test (TakenIf a q) (isFoundFree (verdictNumber (freeVerdict c))) (λ t. k) (λ t. tt)
+taken-by a q pattern.Free c p k = by-test (TakenIf a q) (isFoundFree (verdictNumber (freeVerdict (p .sheet .format) c))) (λ t. k) (λ t. tt)
 
 taken-if : (a : Areas) (q : Grant) → TakenIf a q (allocatePlan a q)
 unfolding allocatePlan takenOf takenHead takenChunk
@@ -50,11 +51,11 @@ taken-if a q =
     by-test P (lawfulSize (g .size) q)
     (λ l. by-test P (eqb (g .head) 0) (λ t. tt)
     (λ t. by-place P (recordOf g (g .head))
-    (λ j f. by-place P (bufferOf g (addressWord (a .records) j))
+    (λ j f. by-place P (bufferOf g (addressWord (g .format) (a .records) j))
     (λ i h.
     let c = chunkIn g (a .heap) i in
-    by-test P (eqb (tagAt c .t0) (g .head))
-    (λ t. taken-by a q (patternOf (tagAt c)) c (spot g i j)
+    by-test P (eqb (tagAt (g .format) c .t0) (g .head))
+    (λ t. taken-by a q (patternOf (tagAt (g .format) c)) c (spot g i j)
     (record { within = record { long = o .long; opened = o .opens; buffer = place-found _ _ _ _ _ h .0; own = place-found _ _ _ _ _ f .0 }; granted = l }))
     (λ t. tt))
     tt)

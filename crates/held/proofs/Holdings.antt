@@ -77,7 +77,7 @@ module _ (m : Image) (address : ℕ) (p : Spot) (known : (q : Grant) → lawfulS
   held-by-if c pattern.Neither e = tt
   held-by-if c pattern.Free e = tt
   held-by-if c pattern.Allocated e =
-      held-as-if (allocatedVerdict c) (λ k q. let w = allocated-within c k q in (w .0, subst (λ (n : ℕ). k ≤ n) e (w .1)))
+      held-as-if (allocatedVerdict (p .sheet .format) c) (λ k q. let w = allocated-within (p .sheet .format) c k q in (w .0, subst (λ (n : ℕ). k ≤ n) e (w .1)))
 
 held-if : (m : Image) (address : ℕ) → OpenImage m → HeldIf m address (heldOf m address)
 unfolding heldOf heldChunk
@@ -86,11 +86,11 @@ held-if m address o =
     (λ i f.
     let c = chunkAt m i in
     let at = place-found _ _ _ _ _ f in
-    by-place P (recordOf (m .sheet) (tagAt c .t0))
-    (λ j h. by-test P (eqb (addressWord (m .records) j) address)
+    by-place P (recordOf (m .sheet) (tagAt (m .sheet .format) c .t0))
+    (λ j h. by-test P (eqb (addressWord (m .sheet .format) (m .records) j) address)
     (λ t. held-by-if m address (spot (m .sheet) i j)
     (λ q l. record { same = refl; opened = o; buffer = at .0; own = place-found _ _ _ _ _ h .0; granted = l; starts = at .1 })
-    c (patternOf (tagAt c))
+    c (patternOf (tagAt (m .sheet .format) c))
     (let n = chunk-long (m .heap) (m .sheet) i (o .law) (o .heapLong) (at .0) in omega (arith, o .law .sizes .chunks)))
     (λ t. tt))
     tt)
@@ -100,14 +100,15 @@ held-if m address o =
     P = HeldIf m address
 
 -- the record that T0 names decides: the buffer is held by its chunk where that record names it
-module _ (m : Image) (c : List ℕ) (address i j : ℕ) (e : recordOf (m .sheet) (tagAt c .t0) ≡ At j) where
-  pub chunk-named : addressWord (m .records) j ≡ address → heldChunk m c address i ≡ heldBy (patternOf (tagAt c)) c (spot (m .sheet) i j)
+module _ (m : Image) (c : List ℕ) (address i j : ℕ) (e : recordOf (m .sheet) (tagAt (m .sheet .format) c .t0) ≡ At j) where
+  pub chunk-named : addressWord (m .sheet .format) (m .records) j ≡ address
+      → heldChunk m c address i ≡ heldBy (patternOf (tagAt (m .sheet .format) c)) c (spot (m .sheet) i j)
   unfolding heldChunk
-  chunk-named n = rw (e, eq-eqb (addressWord (m .records) j) address n)
+  chunk-named n = rw (e, eq-eqb (addressWord (m .sheet .format) (m .records) j) address n)
 
-  pub chunk-unnamed : addressWord (m .records) j ≢ address → heldChunk m c address i ≡ Refused (Damage BadTag)
+  pub chunk-unnamed : addressWord (m .sheet .format) (m .records) j ≢ address → heldChunk m c address i ≡ Refused (Damage BadTag)
   unfolding heldChunk
-  chunk-unnamed n = rw (e, ne-eqb (addressWord (m .records) j) address n)
+  chunk-unnamed n = rw (e, ne-eqb (addressWord (m .sheet .format) (m .records) j) address n)
 
 pub held-known : (m : Image) (address : ℕ) (p : Holding) → OpenImage m → heldOf m address ≡ Buffer p → HeldIn m address p
 held-known m address p o e = subst (HeldIf m address) e (held-if m address o)

@@ -23,10 +23,10 @@ module _ (g : Sheet) where
   -- ---- a chunk and a record
 
   pub laid-chunk-long : Lawful g → (i : ℕ) → length (laidChunk g i) ≡ g .chunk
-  laid-chunk-long law i = omega (arith, length-freeChunk (g .size) (recordAddress g i), law .sizes .chunks)
+  laid-chunk-long law i = omega (arith, length-freeChunk (g .format) (g .size) (recordAddress g i), law .sizes .chunks)
 
   pub laid-record-long : (i : ℕ) → length (laidRecord g i) ≡ recordSize
-  laid-record-long i = length-recordBytes (linkTo g (suc i)) (bufferAddress g i) (g .cache)
+  laid-record-long i = length-recordBytes (g .format) (linkTo g (suc i)) (bufferAddress g i) (g .cache)
 
   pub link-in : (i : ℕ) → i < g .count → linkTo g i ≡ recordAddress g i
   unfolding linkTo

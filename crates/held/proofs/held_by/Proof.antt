@@ -9,7 +9,7 @@ returns-3 c =
     let e = c .before .before in
     let p = e .before .before in
     rw (← p .before .read-tag .ensures, ← p .pattern .ensures, e .enum-told3 .given .1)
-    (c .held-as .ensures (allocatedVerdict _) (c .before .judge-allocated .ensures))
+    (c .held-as .ensures (allocatedVerdict _ _) (c .before .judge-allocated .ensures))
 
 pub held-by-spec : {M : Type 1} → statement M
 held-by-spec =

@@ -18,17 +18,18 @@ use Rattle.held.proofs.held_chunk.Tie as tie
 -- the chunk has a lawful length
 lawful : (c : tie.After-chunk) → ChunkLength (length (c .chunk .result .now))
 lawful c =
-    let s = c .before .before .before in
+    let s = c .before .before .before .before in
     let o = s .pre .0 in
     let long = ap length (c .chunk .ensures) ∙ chunk-long _ (s .args .g) (s .args .buffer) (o .law) (o .heapLong) (s .pre .1) in
     subst ChunkLength (sym long) (chunk-length (s .args .g) (o .law))
 
 module _ (c : tie.After-named) where
   abbrev start : tie.Start
-  start = c .before .before .before .before .before .before .before
+  start = c .before .before .before .before .before .before .before .before
 
   -- the record that T0 names
-  named : recordOf (start .args .g) (tagAt (chunkIn (start .args .g) (start .args .heap .now) (start .args .buffer)) .t0) ≡ At (c .named .given .0 .0)
+  named : let g = start .args .g in
+      recordOf g (tagAt (g .format) (chunkIn g (start .args .heap .now) (start .args .buffer)) .t0) ≡ At (c .named .given .0 .0)
   named =
       let f = c .before .before in
       rw (← f .before .before .chunk .ensures, ← f .before .read-tag .ensures, ← f .find-record .ensures) (c .named .given .1)

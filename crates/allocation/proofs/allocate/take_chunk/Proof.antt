@@ -8,7 +8,7 @@ use Rattle.allocation.proofs.allocate.take_chunk.Statement.{statement}
 use Rattle.allocation.proofs.allocate.take_chunk.Tie as tie
 
 -- T0 is the head, so that the pattern decides
-decided : (c : tie.After-pattern) → let a = c .before .before .before .before .before .before .before .args in
+decided : (c : tie.After-pattern) → let a = c .before .before .before .before .before .before .before .before .args in
     takenChunk (a .chunk .now) (a .p) ≡ takenBy (c .pattern .result) (a .chunk .now) (a .p)
 unfolding takenChunk
 decided c =
@@ -25,4 +25,4 @@ take-chunk-spec =
     (λ c. rw (decided (c .before .before), c .enum-told .given .1))
     (λ c. rw (decided (c .before .before), c .enum-told2 .given .1))
     (λ c. rw (decided (c .before .before .before .before), c .before .before .enum-told3 .given .1)
-    (c .if-free .ensures (freeVerdict _) (c .before .judge-free .ensures))))
+    (c .if-free .ensures (freeVerdict _ _) (c .before .judge-free .ensures))))
