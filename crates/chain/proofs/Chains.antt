@@ -17,6 +17,7 @@ use Rattle.geometry.specs.declared.sheet.Sheet.{Sheet}
 use Rattle.area.specs.declared.place.Place.{Place}
 use Rattle.area.specs.declared.place.Place.the-variants.{At, Nowhere}
 use Rattle.tags.specs.Ending.{endingValue}
+use Rattle.tags.specs.declared.format.Format.{Format}
 use Rattle.tags.specs.declared.ending.Ending.{Ending}
 use Rattle.tags.specs.declared.ending.Ending.the-variants.{End, Broken, Again}
 use Rattle.area.proofs.Places.{place-at, place-found}
@@ -123,45 +124,46 @@ once-more seen i l m j h (no d) =
     let a : toOne (occ j (i ∷ seen)) ≡ toOne (occ j seen) = ap toOne (occ-apart j i seen d) in
     omega (arith, occ-apart j i l d)
 
-module _ (records : List ℕ) (base n : ℕ) where
+module _ (f : Format) (records : List ℕ) (base n : ℕ) where
   within : (w i : ℕ) → placeOf base recordSize n w ≡ At i → i < n
   within w i e = place-found base recordSize n w i e .0
 
   -- The rule, with no bound on the steps.
   module _ (seen : List ℕ) (w : ℕ) where
-    pub chain-end : w ≡ 0 → chainAfter records base n seen w ≡ stop End
+    pub chain-end : w ≡ 0 → chainAfter f records base n seen w ≡ stop End
     unfolding chainAfter
-    chain-end = from-end (nextWord records) (placeOf base recordSize n) n seen w
+    chain-end = from-end (nextWord f records) (placeOf base recordSize n) n seen w
 
-    pub chain-broken : w ≢ 0 → placeOf base recordSize n w ≡ Nowhere → chainAfter records base n seen w ≡ stop Broken
+    pub chain-broken : w ≢ 0 → placeOf base recordSize n w ≡ Nowhere → chainAfter f records base n seen w ≡ stop Broken
     unfolding chainAfter
-    chain-broken = from-broken (nextWord records) (placeOf base recordSize n) n seen w
+    chain-broken = from-broken (nextWord f records) (placeOf base recordSize n) n seen w
 
-    pub chain-again : (i : ℕ) → w ≢ 0 → placeOf base recordSize n w ≡ At i → occ i seen ≢ 0 → chainAfter records base n seen w ≡ stop (Again i)
+    pub chain-again : (i : ℕ) → w ≢ 0 → placeOf base recordSize n w ≡ At i → occ i seen ≢ 0 → chainAfter f records base n seen w ≡ stop (Again i)
     unfolding chainAfter
-    chain-again = from-again (nextWord records) (placeOf base recordSize n) n seen w
+    chain-again = from-again (nextWord f records) (placeOf base recordSize n) n seen w
 
     pub chain-meets : (i : ℕ) → w ≢ 0 → placeOf base recordSize n w ≡ At i → occ i seen ≡ 0
-        → chainAfter records base n seen w ≡ meets i (chainAfter records base n (i ∷ seen) (nextWord records i))
+        → chainAfter f records base n seen w ≡ meets i (chainAfter f records base n (i ∷ seen) (nextWord f records i))
     unfolding chainAfter
     chain-meets i z e m =
-        let f = left-fewer n i seen (within w i e) m in
+        let h = left-fewer n i seen (within w i e) m in
         let a = left-most n seen in
-        from-meets (nextWord records) (placeOf base recordSize n) n seen w i z e m
-        ∙ ap (meets i) (enough (nextWord records) (placeOf base recordSize n) n within (suc n) n (i ∷ seen) (nextWord records i) (omega arith) (omega arith))
+        from-meets (nextWord f records) (placeOf base recordSize n) n seen w i z e m
+        ∙ ap (meets i)
+        (enough (nextWord f records) (placeOf base recordSize n) n within (suc n) n (i ∷ seen) (nextWord f records i) (omega arith) (omega arith))
 
   -- what the rule hands on from step to step holds of every chain
-  pub chain-by : (P : List ℕ → ℕ → Chain → Type 0) → Steps (nextWord records) (placeOf base recordSize n) P
-      → (seen : List ℕ) (w : ℕ) → P seen w (chainAfter records base n seen w)
+  pub chain-by : (P : List ℕ → ℕ → Chain → Type 0) → Steps (nextWord f records) (placeOf base recordSize n) P
+      → (seen : List ℕ) (w : ℕ) → P seen w (chainAfter f records base n seen w)
   unfolding chainAfter
   chain-by P s seen w =
       let a = left-most n seen in
-      by-rule (nextWord records) (placeOf base recordSize n) n within P s (suc n) seen w (omega arith)
+      by-rule (nextWord f records) (placeOf base recordSize n) n within P s (suc n) seen w (omega arith)
 
   -- and, of the records met, what holds of none and is kept by one more
   pub met-by : (P : List ℕ → List ℕ → Type 0) → ((seen : List ℕ) → P seen [])
       → ((seen : List ℕ) (i : ℕ) (l : List ℕ) → i < n → occ i seen ≡ 0 → P (i ∷ seen) l → P seen (i ∷ l))
-      → (seen : List ℕ) (w : ℕ) → P seen (chainAfter records base n seen w .met)
+      → (seen : List ℕ) (w : ℕ) → P seen (chainAfter f records base n seen w .met)
   met-by P none one =
       chain-by (λ seen w c. P seen (c .met))
       (record {
@@ -172,7 +174,7 @@ module _ (records : List ℕ) (base n : ℕ) where
       })
 
   -- the chain from a word, with those records met already, is that of the rule
-  pub chain-rule : ChainRule (nextWord records) (placeOf base recordSize n) (chainAfter records base n)
+  pub chain-rule : ChainRule (nextWord f records) (placeOf base recordSize n) (chainAfter f records base n)
   chain-rule = record {
     ends = λ seen. chain-end seen 0 refl;
     breaks = chain-broken;
@@ -181,19 +183,19 @@ module _ (records : List ℕ) (base n : ℕ) where
   }
 
   -- a list of records, none of them twice and none met already, that are linked from the word w down to 0
-  linked-after : base ≢ 0 → (l seen : List ℕ) (w : ℕ) → Linked (nextWord records) base n w l → ((i : ℕ) → occ i seen + occ i l ≤ 1)
-      → chainAfter records base n seen w ≡ record { met = l; ending = End }
+  linked-after : base ≢ 0 → (l seen : List ℕ) (w : ℕ) → Linked (nextWord f records) base n w l → ((i : ℕ) → occ i seen + occ i l ≤ 1)
+      → chainAfter f records base n seen w ≡ record { met = l; ending = End }
   unfolding Linked
   linked-after b [] seen w r d = chain-end seen w r
   linked-after b (i ∷ l) seen w r d =
       let z : w ≢ 0 = (λ z. b (let e = r .1 .0 in omega arith)) in
       let o = d i in
       chain-meets seen w i z (place-at base recordSize n w i (omega arith) (r .0) (r .1 .0)) (omega (arith, occ-here i l))
-      ∙ ap (meets i) (linked-after b l (i ∷ seen) (nextWord records i) (r .1 .1) (λ j. let o = d j in omega (arith, occ-cons j i seen, occ-cons j i l)))
+      ∙ ap (meets i) (linked-after b l (i ∷ seen) (nextWord f records i) (r .1 .1) (λ j. let o = d j in omega (arith, occ-cons j i seen, occ-cons j i l)))
 
 -- ---- the chain of a sheet's records
 
-pub chain-whole : (g : Sheet) (records : List ℕ) → chainIn g records ≡ chainAfter records (g .«record_base») (g .count) [] (g .head)
+pub chain-whole : (g : Sheet) (records : List ℕ) → chainIn g records ≡ chainAfter (g .format) records (g .«record_base») (g .count) [] (g .head)
 unfolding chainIn
 chain-whole g records = refl
 
@@ -201,7 +203,7 @@ module _ (g : Sheet) (records : List ℕ) where
   -- every record met is one of the n
   pub chain-below : (j : ℕ) → occ j (chainIn g records .met) ≢ 0 → j < g .count
   chain-below = rw (chain-whole g records)
-      (met-by records (g .«record_base») (g .count) (λ seen l. (j : ℕ) → occ j l ≢ 0 → j < g .count)
+      (met-by (g .format) records (g .«record_base») (g .count) (λ seen l. (j : ℕ) → occ j l ≢ 0 → j < g .count)
       (λ seen j h. absurd (h (occ-none j)))
       (λ seen i l b m r j h. below-more (g .count) i l b r j h (ℕ-discrete j i))
       [] (g .head))
@@ -209,7 +211,7 @@ module _ (g : Sheet) (records : List ℕ) where
   -- and is met once
   pub chain-once : (j : ℕ) → occ j (chainIn g records .met) ≤ 1
   chain-once j = rw (chain-whole g records)
-      (let h = met-by records (g .«record_base») (g .count) (λ seen l. (j : ℕ) → toOne (occ j seen) + occ j l ≤ 1)
+      (let h = met-by (g .format) records (g .«record_base») (g .count) (λ seen l. (j : ℕ) → toOne (occ j seen) + occ j l ≤ 1)
       (λ seen j. omega (arith, occ-none j, one-most (occ j seen)))
       (λ seen i l b m r j. once-more seen i l m j (r j) (ℕ-discrete j i))
       [] (g .head) j in omega arith)
@@ -217,7 +219,7 @@ module _ (g : Sheet) (records : List ℕ) where
   -- so no more are met than there are
   pub chain-short : length (chainIn g records .met) ≤ g .count
   chain-short = rw (chain-whole g records)
-      (let h = met-by records (g .«record_base») (g .count) (λ seen l. length l ≤ left (g .count) seen)
+      (let h = met-by (g .format) records (g .«record_base») (g .count) (λ seen l. length l ≤ left (g .count) seen)
       (λ seen. omega arith)
       (λ seen i l b m r. omega (arith, left-fewer (g .count) i seen b m))
       [] (g .head) in omega (arith, left-most (g .count) []))
@@ -228,7 +230,7 @@ module _ (g : Sheet) (records : List ℕ) where
     where
       met-again : (i : ℕ) → chainIn g records .ending ≡ Again i → occ i (chainIn g records .met) ≢ 0
       met-again = rw (chain-whole g records)
-          (λ i e h. chain-by records (g .«record_base») (g .count) (λ seen w c. (i : ℕ) → c .ending ≡ Again i → occ i seen + occ i (c .met) ≢ 0)
+          (λ i e h. chain-by (g .format) records (g .«record_base») (g .count) (λ seen w c. (i : ℕ) → c .ending ≡ Again i → occ i seen + occ i (c .met) ≢ 0)
           (record {
             ends = λ seen w z i e. absurd (let z : _≡_ {A = ℕ} 0 1 = cc in omega arith);
             breaks = λ seen w z e i q. absurd (let z : _≡_ {A = ℕ} 0 1 = cc in omega arith);
@@ -249,11 +251,11 @@ module _ (g : Sheet) (records : List ℕ) where
       go (Again i) q = chain-again-below i q
 
   -- a list of records, none of them twice, that are linked from the head down to 0 is the chain
-  pub linked-chain : g .«record_base» ≢ 0 → (l : List ℕ) → Linked (nextWord records) (g .«record_base») (g .count) (g .head) l → ((i : ℕ) → occ i l ≤ 1)
-      → chainIn g records ≡ record { met = l; ending = End }
+  pub linked-chain : g .«record_base» ≢ 0 → (l : List ℕ) → Linked (nextWord (g .format) records) (g .«record_base») (g .count) (g .head) l
+      → ((i : ℕ) → occ i l ≤ 1) → chainIn g records ≡ record { met = l; ending = End }
   linked-chain b l r d =
       chain-whole g records
-      ∙ linked-after records (g .«record_base») (g .count) b l [] (g .head) r (λ i. let o = d i in omega (arith, occ-none i))
+      ∙ linked-after (g .format) records (g .«record_base») (g .count) b l [] (g .head) r (λ i. let o = d i in omega (arith, occ-none i))
 
 -- the links of a list are the same where the next words of its records are
 pub linked-same : (f g : ℕ → ℕ) (base n w : ℕ) (l : List ℕ) → ((j : ℕ) → occ j l ≢ 0 → f j ≡ g j) → Linked f base n w l → Linked g base n w l
@@ -296,7 +298,7 @@ gives-meets c d i rest seen base n before r exit q g =
 
 -- a walk of the whole chain
 pub gives-all : (g : Sheet) (records : List ℕ) (rest : ℕ → ℕ) (r : ℕ) (exit : List ℕ)
-    → Gives (chainAfter records (g .«record_base») (g .count) [] (g .head)) rest [] (g .«record_base») (g .count) 0 r exit →
+    → Gives (chainAfter (g .format) records (g .«record_base») (g .count) [] (g .head)) rest [] (g .«record_base») (g .count) 0 r exit →
     let c = chainIn g records in
     (r / wordValues ≡ length (c .met))
     × ((endingAt (g .«record_base») (g .count) (r % wordValues) ≡ c .ending) × (exit ≡ areaOf (g .count) rest (c .met)))

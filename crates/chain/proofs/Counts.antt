@@ -88,23 +88,23 @@ module _ (g : Sheet) (records : List ℕ) where
   counted-none marks e = e ∙ area-clear (g .count)
 
   -- record j names buffer k, and no other
-  pub counted-hit : (j k v : ℕ) (marks : List ℕ) → 0 < g .chunk → k < g .count → addressWord records j ≡ bufferAddress g k
+  pub counted-hit : (j k v : ℕ) (marks : List ℕ) → 0 < g .chunk → k < g .count → addressWord (g .format) records j ≡ bufferAddress g k
       → v ≡ withName (getD marks k 0) → Counted j marks → Counted (suc j) (set marks k v)
   unfolding namers
   counted-hit j k v marks p h w d e =
       ap (λ (a : List ℕ). set a k v) e
       ∙ table-set (g .count) k v (λ i. byte (toOne (occ i [])) (namedBy g records j i)) (λ i. byte (toOne (occ i [])) (namedBy g records (suc j) i)) h
-      (simp (eq-eqb (addressWord records j) (bufferAddress g k) w)
+      (simp (eq-eqb (addressWord (g .format) records j) (bufferAddress g k) w)
       (sym (d ∙ ap withName (byte-at j [] marks e k h) ∙ byte-name (toOne (occ k [])) (namedBy g records j k) (one-most (occ k [])))))
-      (λ i o. simp (ne-eqb (addressWord records j) (bufferAddress g i) (λ z. o (address-one (g .«heap_base») (g .chunk) i k p (sym z ∙ w)))))
+      (λ i o. simp (ne-eqb (addressWord (g .format) records j) (bufferAddress g i) (λ z. o (address-one (g .«heap_base») (g .chunk) i k p (sym z ∙ w)))))
 
   -- record j names none of them
-  pub counted-miss : (j : ℕ) (marks : List ℕ) → ((i : ℕ) → i < g .count → addressWord records j ≡ bufferAddress g i → ⊥)
+  pub counted-miss : (j : ℕ) (marks : List ℕ) → ((i : ℕ) → i < g .count → addressWord (g .format) records j ≡ bufferAddress g i → ⊥)
       → Counted j marks → Counted (suc j) marks
   unfolding namers
   counted-miss j marks h e =
       is-table marks (g .count) (λ i. byte (toOne (occ i [])) (namedBy g records (suc j) i)) (ap length e ∙ length-table (g .count) _)
-      (λ i l. byte-at j [] marks e i l ∙ simp (ne-eqb (addressWord records j) (bufferAddress g i) (h i l)))
+      (λ i l. byte-at j [] marks e i l ∙ simp (ne-eqb (addressWord (g .format) records j) (bufferAddress g i) (h i l)))
 
   -- ---- the marks of an image
 

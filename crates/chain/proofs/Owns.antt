@@ -107,36 +107,39 @@ none-of (k ∷ []) names n d = absurd (d n)
 none-of (k ∷ (m ∷ l)) names n d = refl
 
 module _ (g : Sheet) (records : List ℕ) (i : ℕ) where
-  pub found-one : (names last : ℕ) → Found (addressWord records) (bufferAddress g i) (g .count) names last → names ≡ 1 → ownIn g records i ≡ One last
+  pub found-one : (names last : ℕ) → Found (addressWord (g .format) records) (bufferAddress g i) (g .count) names last → names ≡ 1
+      → ownIn g records i ≡ One last
   unfolding ownIn
-  found-one names last f e = one-of (namers (addressWord records) (g .count) (bufferAddress g i)) names last (f .names-are) (f .last-is) e
+  found-one names last f e = one-of (namers (addressWord (g .format) records) (g .count) (bufferAddress g i)) names last (f .names-are) (f .last-is) e
 
-  pub found-other : (names last : ℕ) → Found (addressWord records) (bufferAddress g i) (g .count) names last → names ≢ 1 → ownIn g records i ≡ NotOne
+  pub found-other : (names last : ℕ) → Found (addressWord (g .format) records) (bufferAddress g i) (g .count) names last → names ≢ 1
+      → ownIn g records i ≡ NotOne
   unfolding ownIn
-  found-other names last f d = none-of (namers (addressWord records) (g .count) (bufferAddress g i)) names (f .names-are) d
+  found-other names last f d = none-of (namers (addressWord (g .format) records) (g .count) (bufferAddress g i)) names (f .names-are) d
 
   -- an own record is one of the n
   pub own-below : (j : ℕ) → ownIn g records i ≡ One j → j < g .count
   unfolding ownIn
   own-below j e =
-      first-names (addressWord records) (g .count) (bufferAddress g i) j []
-      (the-one (namers (addressWord records) (g .count) (bufferAddress g i)) j e) .0
+      first-names (addressWord (g .format) records) (g .count) (bufferAddress g i) j []
+      (the-one (namers (addressWord (g .format) records) (g .count) (bufferAddress g i)) j e) .0
 
   -- ---- the own record by its count
 
   pub own-none : namesAfter g records (g .count) i ≢ 1 → ownIn g records i ≡ NotOne
   unfolding ownIn
-  own-none d = not-single (namers (addressWord records) (g .count) (bufferAddress g i)) d
+  own-none d = not-single (namers (addressWord (g .format) records) (g .count) (bufferAddress g i)) d
 
   pub own-some : namesAfter g records (g .count) i ≡ 1
-      → (j : ℕ) × ((ownIn g records i ≡ One j) × ((j < g .count) × (addressWord records j ≡ bufferAddress g i)))
+      → (j : ℕ) × ((ownIn g records i ≡ One j) × ((j < g .count) × (addressWord (g .format) records j ≡ bufferAddress g i)))
   unfolding ownIn
   own-some c =
-      let s = single (namers (addressWord records) (g .count) (bufferAddress g i)) c in
-      (s .0, (ap theOne (s .1), first-names (addressWord records) (g .count) (bufferAddress g i) (s .0) [] (s .1)))
+      let s = single (namers (addressWord (g .format) records) (g .count) (bufferAddress g i)) c in
+      (s .0, (ap theOne (s .1), first-names (addressWord (g .format) records) (g .count) (bufferAddress g i) (s .0) [] (s .1)))
 
-  pub own-one : (j : ℕ) → namesAfter g records (g .count) i ≡ 1 → j < g .count → addressWord records j ≡ bufferAddress g i → ownIn g records i ≡ One j
+  pub own-one : (j : ℕ) → namesAfter g records (g .count) i ≡ 1 → j < g .count → addressWord (g .format) records j ≡ bufferAddress g i
+      → ownIn g records i ≡ One j
   unfolding ownIn
   own-one j c l w =
-      let s = single (namers (addressWord records) (g .count) (bufferAddress g i)) c in
-      ap theOne (s .1) ∙ ap One (sym (only-names (addressWord records) (g .count) (bufferAddress g i) (s .0) (s .1) j l w))
+      let s = single (namers (addressWord (g .format) records) (g .count) (bufferAddress g i)) c in
+      ap theOne (s .1) ∙ ap One (sym (only-names (addressWord (g .format) records) (g .count) (bufferAddress g i) (s .0) (s .1) j l w))

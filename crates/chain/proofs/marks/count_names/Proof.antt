@@ -27,7 +27,7 @@ module _ (c : tie.After-p Inv-loop μ-loop) where
   index = c .p .given .0 .0
 
   names : let a = c .before .before .before .before .before .before .before .before .args in
-      let w = addressWord (a .records .now) (c .before .before .before .before .before .loop .j) in
+      let w = addressWord (a .g .format) (a .records .now) (c .before .before .before .before .before .loop .j) in
       (index < a .g .count) × (w ≡ bufferAddress (a .g) index)
   names =
       let g = c .before .before .before .before .before .before .before .before .args .g in

@@ -13,7 +13,7 @@ use Rattle.chain.proofs.pairing.own_record.Tie as tie
 
 abbrev Inv-loop : tie.InvT-loop
 Inv-loop records g i buffer n names₀ last₀ j₀ names last j =
-    (j ≤ g .count) × ((names ≤ j) × Found (addressWord records) (bufferAddress g i) j names last)
+    (j ≤ g .count) × ((names ≤ j) × Found (addressWord (g .format) records) (bufferAddress g i) j names last)
 
 abbrev μ-loop : tie.MeasureT-loop
 μ-loop records g i buffer n names₀ last₀ j₀ names last j = g .count - j
@@ -21,7 +21,7 @@ abbrev μ-loop : tie.MeasureT-loop
 loop-holds : tie.Need-loop-holds Inv-loop μ-loop
 loop-holds c =
     let a = c .before .before .args in
-    (search needs, (search needs, found-none (addressWord (a .records .now)) (bufferAddress (a .g) (a .i))))
+    (search needs, (search needs, found-none (addressWord (a .g .format) (a .records .now)) (bufferAddress (a .g) (a .i))))
 
 loop-again : tie.Need-loop-again Inv-loop μ-loop
 loop-again c =
@@ -29,7 +29,7 @@ loop-again c =
     let k = b .before .before .before in
     let a = k .before .before .args in
     let l = b .before .before .loop in
-    let word = addressWord (a .records .now) in (
+    let word = addressWord (a .g .format) (a .records .now) in (
       search needs,
       ⊎-elim
           (λ w. (
@@ -52,7 +52,7 @@ returns c =
     let a = c .before .before .before .before .before .args in
     let l = c .before .before .loop in
     let e : l .j ≡ a .g .count = omega arith in
-    let f = subst (λ (k : ℕ). Found (addressWord (a .records .now)) (bufferAddress (a .g) (a .i)) k (l .names) (l .last)) e (l .inv .1 .1) in
+    let f = subst (λ (k : ℕ). Found (addressWord (a .g .format) (a .records .now)) (bufferAddress (a .g) (a .i)) k (l .names) (l .last)) e (l .inv .1 .1) in
     sym (found-one (a .g) (a .records .now) (a .i) (l .names) (l .last) f (c .if2 .taken))
 
 returns-2 : tie.Need-returns-2 Inv-loop μ-loop
@@ -60,7 +60,7 @@ returns-2 c =
     let a = c .before .before .before .before .before .args in
     let l = c .before .before .loop in
     let e : l .j ≡ a .g .count = omega arith in
-    let f = subst (λ (k : ℕ). Found (addressWord (a .records .now)) (bufferAddress (a .g) (a .i)) k (l .names) (l .last)) e (l .inv .1 .1) in
+    let f = subst (λ (k : ℕ). Found (addressWord (a .g .format) (a .records .now)) (bufferAddress (a .g) (a .i)) k (l .names) (l .last)) e (l .inv .1 .1) in
     sym (found-other (a .g) (a .records .now) (a .i) (l .names) (l .last) f (c .if2 .left))
 
 pub own-record-spec : {M : Type 1} → statement M

@@ -10,6 +10,7 @@ use borrow.Fn.PlainCycle.{Measures, is, falls, and}
 use lib.ListN.{length, set, length-set}
 use Rattle.area.specs.Place.{placeAddress, placeOf}
 use Rattle.area.specs.Record.{recordSize, nextAt}
+use Rattle.tags.specs.Format.{formatIf}
 use Rattle.chain.specs.Chain.{meets, chainAfter}
 use Rattle.chain.specs.Walk.{unmet}
 use Rattle.area.specs.declared.place.Place.the-variants.{At, Nowhere}
@@ -26,11 +27,12 @@ use Rattle.chain.proofs.walk.+walk.Lts-walk as walk-lts
 use Rattle.chain.proofs.walk.pack.Reads as pack-reads
 use Rattle.area.proofs.place.find.Reads as find-reads
 use Rattle.chain.proofs.walk.with_met.Reads as with-met-reads
+use Rattle.tags.proofs.format.Format.of.Reads as of-reads
 use Rattle.area.proofs.record.read_at.Reads as read-at-reads
 use denote.Ref.{now}
 
 abbrev μ-walk : Measures 4 walk-kinds.ps ℕ
-μ-walk κs a = unmet (now (a .1 .1 .1 .1 .1 .0 .now))
+μ-walk κs a = unmet (now (a .1 .1 .1 .1 .1 .1 .0 .now))
 
 abbrev walk-at : ℕ → In 4 walk-kinds.ps
 walk-at t = and 4 walk-kinds.ps (is 4 walk-kinds.ps μ-walk t) walk.Pre
@@ -47,6 +49,8 @@ callees t = (
   find-reads.Learnt,
   with-met-reads.Asked,
   with-met-reads.Learnt,
+  of-reads.Asked,
+  of-reads.Learnt,
   read-at-reads.Asked,
   read-at-reads.Learnt,
   walk-below t,
@@ -100,7 +104,7 @@ walk-returns t c =
     let a = s .args in
     let z = c .before .if1 .taken in (
       λ rest seen h.
-          gives-stop _ End rest seen (a .base) (a .n) (a .met) (a .word) _ _ (chain-end _ _ _ seen _ z) (c .pack .ensures) (s .fits .word .fits)
+          gives-stop _ End rest seen (a .base) (a .n) (a .met) (a .word) _ _ (chain-end _ _ _ _ seen _ z) (c .pack .ensures) (s .fits .word .fits)
           (ending-end (a .base) (a .n) (a .word) z) h,
       (refl, refl),
     )
@@ -132,7 +136,7 @@ walk-returns-2 t c =
     let z = p .before .before .before .if1 .left in (
       λ rest seen h.
           gives-stop _ (Again i) rest seen (a .base) (a .n) (a .met) (a .word) _ _
-          (chain-again _ _ _ seen _ i z (is-at t p) (is-met (a .n) rest seen (now (a .marks .now)) i h (found t p .0) (c .before .if2 .taken)))
+          (chain-again _ _ _ _ seen _ i z (is-at t p) (is-met (a .n) rest seen (now (a .marks .now)) i h (found t p .0) (c .before .if2 .taken)))
           (c .pack3 .ensures) (s .fits .word .fits) (ending-place (a .base) (a .n) (a .word) (At i) z (is-at t p)) h,
       (refl, refl),
     )
@@ -146,6 +150,9 @@ walk-with-met-requires t c κs = search needs
 walk-index-1-marks : (t : ℕ) → walk-lts.Need-index-1-marks (callees t) (walk-at t) walk.Post
 walk-index-1-marks t c = in-marks t (c .before .before .before .before .before)
 
+walk-of-requires : (t : ℕ) → walk-lts.Need-of-requires (callees t) (walk-at t) walk.Post
+walk-of-requires t c κs = search needs
+
 walk-cast-read-at : (t : ℕ) → walk-lts.Need-cast-read-at (callees t) (walk-at t) walk.Post
 walk-cast-read-at t c = search needs
 
@@ -153,14 +160,14 @@ walk-add-read-at : (t : ℕ) → walk-lts.Need-add-read-at (callees t) (walk-at 
 walk-add-read-at t c = search needs
 
 walk-read-at-requires : (t : ℕ) → walk-lts.Need-read-at-requires (callees t) (walk-at t) walk.Post
-walk-read-at-requires t c κs = let h = found t (c .before .before .before .before .before .before) in (omega arith, omega arith)
+walk-read-at-requires t c κs = let h = found t (c .before .before .before .before .before .before .before) in (omega arith, omega arith)
 
 walk-add-walk : (t : ℕ) → walk-lts.Need-add-walk (callees t) (walk-at t) walk.Post
 walk-add-walk t c = omega arith
 
 walk-walk-requires : (t : ℕ) → walk-lts.Need-walk-requires (callees t) (walk-at t) walk.Post
 walk-walk-requires t c κs =
-    let m = c .before .before .before in
+    let m = c .before .before .before .before in
     let s = m .before .before .before .before .before .before .before .before .before in
     let h = fewer t m in (
       omega arith,
@@ -180,24 +187,27 @@ walk-returns-3 t c =
     let z = c .before .before .before .before .if1 .left in
     let e = at-size s ∙ sym (c .before .before .before .find .ensures) ∙ c .before .enum-told .given .1 in (
       λ rest seen h.
-          gives-stop _ Broken rest seen (a .base) (a .n) (a .met) (a .word) _ _ (chain-broken _ _ _ seen _ z e) (c .pack2 .ensures) (s .fits .word .fits)
+          gives-stop _ Broken rest seen (a .base) (a .n) (a .met) (a .word) _ _ (chain-broken _ _ _ _ seen _ z e) (c .pack2 .ensures) (s .fits .word .fits)
           (ending-place (a .base) (a .n) (a .word) Nowhere z e) h,
       (refl, refl),
     )
 
 walk-returns-4 : (t : ℕ) → walk-lts.Need-returns-4 (callees t) (walk-at t) walk.Post
 walk-returns-4 t c =
-    let m = c .before .before .before .before in
+    let m = c .before .before .before .before .before in
     let p = m .before .before .before .before .before in
     let i = index t p in
     let s = p .before .before .before .before in
     let a = s .args in
     let even = m .before .before .if2 .left in
-    let from = chainAfter (now (a .records .now)) (a .base) (a .n) in
-    let read = c .before .before .read-at .ensures ∙ record-at _ (a .base) _ i nextAt (ap (λ (w : ℕ). w + nextAt) (found t p .1)) in (
+    let f = formatIf (a .low) in
+    let from = chainAfter f (now (a .records .now)) (a .base) (a .n) in
+    let w = rw (c .before .before .before .before .of .ensures) at (c .before .before .read-at .ensures) in
+    let read = w ∙ record-at f _ (a .base) _ i nextAt (ap (λ (w : ℕ). w + nextAt) (found t p .1)) in (
       λ rest seen h.
           gives-meets _ (from (i ∷ seen) (c .before .before .read-at .result)) i rest seen (a .base) (a .n) (a .met) _ _
-          (chain-meets _ _ _ seen (a .word) i (p .before .before .before .if1 .left) (is-at t p) (not-met (a .n) rest seen (entry t m) i h (found t p .0) even)
+          (chain-meets f _ _ _ seen (a .word) i (p .before .before .before .if1 .left) (is-at t p)
+          (not-met (a .n) rest seen (entry t m) i h (found t p .0) even)
           ∙ ap (λ (w : ℕ). meets i (from (i ∷ seen) w)) (sym read))
           (c .walk .ensures .0 rest (i ∷ seen)
           (ap (set (entry t m) i) (m .with-met .ensures) ∙ area-meets (a .n) rest seen (entry t m) i h (found t p .0) even)),
@@ -220,6 +230,7 @@ pub +walk-spec : {M : Type 1} → statement M
     (walk-index-1-with-met t)
     (walk-with-met-requires t)
     (walk-index-1-marks t)
+    (walk-of-requires t)
     (walk-cast-read-at t)
     (walk-add-read-at t)
     (walk-read-at-requires t)

@@ -6,6 +6,7 @@ use native.Mathlib.Omega.{arith}
 use borrow.Author.Needs.{needs}
 use lib.ListN.{length}
 use Rattle.area.specs.declared.place.Place.the-variants.{At, Nowhere}
+use Rattle.tags.proofs.Formats.{format-back}
 use Rattle.chain.specs.Chain.{chainIn}
 use Rattle.chain.specs.Walk.{areaOf, endingAt, wordValues}
 use Rattle.chain.proofs.MetRecords.{unmet-most}
@@ -15,7 +16,7 @@ use Rattle.chain.proofs.walk.walk_from.Tie as tie
 
 walk-lent-requires : tie.Need-walk-lent-requires
 walk-lent-requires c κs =
-    let s = c .before .before .before .before in
+    let s = c .before .before .before .before .before .before in
     record {
       stride = refl;
       room = omega (arith, s .pre .1 .0);
@@ -26,15 +27,16 @@ walk-lent-requires c κs =
 
 -- what the walk gives, whatever stands above the marks
 came : (c : tie.After-walk-lent) (rest : ℕ → ℕ) →
-    let a = c .before .before .before .before .before .args in
+    let a = c .before .before .before .before .before .before .before .args in
     let d = chainIn (a .g) (a .t1 .now) in
     a .marks .now ≡ areaOf (a .g .count) rest []
     → (c .walk-lent .result / wordValues ≡ length (d .met))
     × ((endingAt (a .g .«record_base») (a .g .count) (c .walk-lent .result % wordValues) ≡ d .ending)
-    × (c .walk-lent .last .1 .1 .1 .1 .1 .0 ≡ areaOf (a .g .count) rest (d .met)))
+    × (c .walk-lent .last .1 .1 .1 .1 .1 .1 .0 ≡ areaOf (a .g .count) rest (d .met)))
 came c rest e =
-    let a = c .before .before .before .before .before .args in
-    gives-all (a .g) (a .t1 .now) rest (c .walk-lent .result) (c .walk-lent .last .1 .1 .1 .1 .1 .0) (c .walk-lent .ensures rest [] e)
+    let a = c .before .before .before .before .before .before .before .args in
+    gives-all (a .g) (a .t1 .now) rest (c .walk-lent .result) (c .walk-lent .last .1 .1 .1 .1 .1 .1 .0)
+    (rw (c .before .before .is-low .ensures, format-back (a .g .format)) at (c .walk-lent .ensures rest [] e))
 
 returns : tie.Need-returns
 returns c rest e =
@@ -58,6 +60,6 @@ pub walk-from-spec : {M : Type 1} → statement M
 walk-from-spec =
     tie.close
     (tie.spec
-    walk-lent-requires
+    (λ c κs. search needs) walk-lent-requires
     (λ c. search needs) (λ c. search needs) returns (λ c κs. search needs) (λ c. search needs) (λ c. search needs) (λ c. search needs) returns-2
     (λ c. search needs) returns-3)
