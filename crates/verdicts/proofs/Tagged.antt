@@ -6,6 +6,7 @@ use borrow.Author.Tests.{eq-eqb, ne-eqb}
 use Rattle.area.specs.Record.{addressWord}
 use Rattle.chunks.specs.Chunk.{tagAt}
 use Rattle.tags.specs.Tag.{patternOf}
+use Rattle.tags.specs.declared.tag.Tag.{Tag}
 use Rattle.tags.specs.declared.verdict.Verdict.{Verdict}
 use Rattle.tags.specs.declared.verdict.Verdict.the-variants.{NotOneRecord, BadTag}
 use Rattle.geometry.specs.Sheet.{bufferAddress, recordAddress}
@@ -22,8 +23,12 @@ module _ (m : Image) (i : ℕ) where
   abbrev Names : ℕ
   Names = namesAfter (m .sheet) (m .records) (m .sheet .count) i
 
+  -- the buffer's tag
+  abbrev tag : Tag
+  tag = tagAt (m .sheet .format) (chunkAt m i)
+
   abbrev of-own : Own → Verdict
-  of-own o = byOwn o (λ j. ownedVerdict (chunkAt m i) (recordAddress (m .sheet) j) (standingOf (chainOf m) j)) NotOneRecord
+  of-own o = byOwn o (λ j. ownedVerdict (m .sheet .format) (chunkAt m i) (recordAddress (m .sheet) j) (standingOf (chainOf m) j)) NotOneRecord
 
   verdict-by : (o : Own) → ownOf m i ≡ o → verdictOf m i ≡ of-own o
   unfolding verdictOf
@@ -34,18 +39,18 @@ module _ (m : Image) (i : ℕ) where
 
   -- T0 is no record's address, or that of a record that does not name the buffer
   pub verdict-other : Names ≡ 1
-      → ((j : ℕ) → j < m .sheet .count → addressWord (m .records) j ≡ bufferAddress (m .sheet) i → tagAt (chunkAt m i) .t0 ≢ recordAddress (m .sheet) j)
+      → ((j : ℕ) → j < m .sheet .count → addressWord (m .sheet .format) (m .records) j ≡ bufferAddress (m .sheet) i → tag .t0 ≢ recordAddress (m .sheet) j)
       → verdictOf m i ≡ BadTag
   unfolding ownedVerdict
   verdict-other c d =
       let s = own-some (m .sheet) (m .records) i c in
       verdict-by (One (s .0)) (s .1 .0)
-      ∙ simp (ne-eqb (tagAt (chunkAt m i) .t0) (recordAddress (m .sheet) (s .0)) (d (s .0) (s .1 .1 .0) (s .1 .1 .1)))
+      ∙ simp (ne-eqb (tag .t0) (recordAddress (m .sheet) (s .0)) (d (s .0) (s .1 .1 .0) (s .1 .1 .1)))
 
   -- T0 is the address of a record that names the buffer
-  pub verdict-one : (j : ℕ) → Names ≡ 1 → j < m .sheet .count → addressWord (m .records) j ≡ bufferAddress (m .sheet) i
-      → tagAt (chunkAt m i) .t0 ≡ recordAddress (m .sheet) j
-      → verdictOf m i ≡ chainedVerdict (chunkAt m i) (patternOf (tagAt (chunkAt m i))) (standingOf (chainOf m) j)
+  pub verdict-one : (j : ℕ) → Names ≡ 1 → j < m .sheet .count → addressWord (m .sheet .format) (m .records) j ≡ bufferAddress (m .sheet) i
+      → tag .t0 ≡ recordAddress (m .sheet) j
+      → verdictOf m i ≡ chainedVerdict (m .sheet .format) (chunkAt m i) (patternOf tag) (standingOf (chainOf m) j)
   unfolding ownedVerdict
   verdict-one j c l w e =
-      verdict-by (One j) (own-one (m .sheet) (m .records) i j c l w) ∙ simp (eq-eqb (tagAt (chunkAt m i) .t0) (recordAddress (m .sheet) j) e)
+      verdict-by (One j) (own-one (m .sheet) (m .records) i j c l w) ∙ simp (eq-eqb (tag .t0) (recordAddress (m .sheet) j) e)

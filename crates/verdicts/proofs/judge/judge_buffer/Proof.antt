@@ -42,13 +42,13 @@ module _ (s : tie.Start) where
       subst ChunkLength (sym (length-part (s .args .heap .now) (chunkPlace g (s .args .i)) (g .chunk) (omega (arith, o .heapLong)))) (chunk-length g (o .law))
 
 abbrev begun : tie.After-read-tag → tie.Start
-begun c = c .before .before .before .before .before .before .before .before .before
+begun c = c .before .before .before .before .before .before .before .before .before .before
 
 -- the tag that is read is the chunk's
 tag-read : (c : tie.After-read-tag) →
     let s = begun c in
-    c .read-tag .result ≡ tagAt (chunkAt (judging s) (s .args .i))
-tag-read c = c .read-tag .ensures ∙ ap tagAt (c .before .chunk .ensures)
+    c .read-tag .result ≡ tagAt (s .args .g .format) (chunkAt (judging s) (s .args .i))
+tag-read c = let f = begun c .args .g .format in c .read-tag .ensures ∙ ap (tagAt f) (c .before .chunk .ensures)
 
 -- one record alone names the buffer
 one-names : (c : tie.After-read-tag) →
@@ -56,7 +56,7 @@ one-names : (c : tie.After-read-tag) →
     namesAfter (s .args .g) (s .args .records .now) (s .args .g .count) (s .args .i) ≡ 1
 one-names c =
     let s = begun c in
-    sym (ap (λ (d : Digits). d .names) (c .before .before .before .before .read .ensures) ∙ digit s) ∙ c .before .before .if1 .left
+    sym (ap (λ (d : Digits). d .names) (c .before .before .before .before .before .read .ensures) ∙ digit s) ∙ c .before .before .before .if1 .left
 
 -- where T0 is the address of record `index`
 module _ (c : tie.After-p) where
@@ -66,7 +66,8 @@ module _ (c : tie.After-p) where
   abbrev start : tie.Start
   start = begun (c .before .before .before)
 
-  found : (index < start .args .g .count) × (tagAt (chunkAt (judging start) (start .args .i)) .t0 ≡ recordAddress (start .args .g) index)
+  found : let g = start .args .g in
+      (index < g .count) × (tagAt (g .format) (chunkAt (judging start) (start .args .i)) .t0 ≡ recordAddress g index)
   found =
       let g = start .args .g in
       let f = place-found (g .«record_base») recordSize (g .count) _ index (sym (c .before .before .find-named .ensures) ∙ c .p .given .1) in
@@ -80,7 +81,7 @@ returns c =
     c .tell .ensures ∙ ap toldOf (sym none)
 
 read-tag-requires : tie.Need-read-tag-requires
-read-tag-requires c κs = rw (c .chunk .ensures) (chunk-lawful (c .before .before .before .before .before .before .before .before))
+read-tag-requires c κs = rw (c .chunk .ensures) (chunk-lawful (c .before .before .before .before .before .before .before .before .before))
 
 buffer-requires : tie.Need-buffer-requires
 buffer-requires c κs =
@@ -99,7 +100,7 @@ returns-2 c =
     verdict-other (judging s) (s .args .i) (one-names (p .before .before .before))
     (λ j l w e.
     let same = address-one (s .args .g .«record_base») recordSize (index p) j (omega arith) (sym (found p .1) ∙ e) in
-    i .if2 .taken (i .before .before .buffer .ensures ∙ ap (addressWord r) same ∙ w ∙ sym (i .before .buffer-address .ensures))) in
+    i .if2 .taken (i .before .before .buffer .ensures ∙ ap (addressWord (s .args .g .format) r) same ∙ w ∙ sym (i .before .buffer-address .ensures))) in
     c .tell3 .ensures ∙ ap toldOf (sym other)
 
 -- T0 is no record's address
@@ -142,7 +143,7 @@ returns-4 c =
     verdict-one (judging s) (s .args .i) (index p) (one-names k) (found p .0)
     (sym (at .before .before .buffer .ensures) ∙ at .if2 .left ∙ at .before .buffer-address .ensures) (found p .1) in
     c .judge-chained .ensures
-    ∙ ap toldOf ((λ x. chainedVerdict (whole x) (patternOf (tag x)) (standing (met x) (again x))) ∙ sym one)
+    ∙ ap toldOf ((λ x. chainedVerdict (g .format) (whole x) (patternOf (tag x)) (standing (met x) (again x))) ∙ sym one)
 
 pub judge-buffer-spec : {M : Type 1} → statement M
 judge-buffer-spec =
