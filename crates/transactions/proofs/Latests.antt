@@ -6,7 +6,7 @@ use native.Mathlib.Omega.{arith}
 use lib.Dec.{eqb, ltb}
 use lib.ListN.{length}
 use Rattle.words.proofs.Tests.{by-test}
-use Rattle.area.specs.Record.{recordSize, stampHigh, stampLow}
+use Rattle.area.specs.Record.{recordSize, stampNumber, highHalf, lowHalf}
 use Rattle.log.specs.Log.{rowSize, rowsOf, logMost}
 use Rattle.area.specs.declared.place.Place.{Place}
 use Rattle.area.specs.declared.place.Place.the-variants as place
@@ -36,19 +36,19 @@ LatestIf r l (Refused why) = Unit {0}
 -- what the rows leave of record j
 abbrev chosen : Sheet → List ℕ → List ℕ → ℕ → ℕ → Place
 chosen g records log time j =
-    latestRow log (recordAddress g j) time (firstBest (stampLow records j) time) (rowsOf (length log)) .row
+    latestRow (g .format) log (recordAddress g j) time (firstBest (lowHalf (stampNumber (g .format) records j)) time) (rowsOf (length log)) .row
 
 owned-if : (g : Sheet) (h : ℕ) (records log : List ℕ) (time j : ℕ) → Open h (length records) g → length log ≤ logMost → j < g .count
     → LatestIf (length records) (length log) (ownedLatest g records log time j)
 unfolding ownedLatest
 owned-if g h records log time j o few below =
-    by-test P (eqb (stampHigh records j) 0) (λ t. go (chosen g records log time j) refl) (λ t. tt)
+    by-test P (eqb (highHalf (stampNumber (g .format) records j)) 0) (λ t. go (chosen g records log time j) refl) (λ t. tt)
   where
     P : Transaction → Type 0
     P = LatestIf (length records) (length log)
 
     go : (p : Place) → chosen g records log time j ≡ p → P (rowOrRecord p j)
-    go (place.At k) e = let b = row-below _ _ _ _ _ _ e in (omega arith, omega arith)
+    go (place.At k) e = let b = row-below _ _ _ _ _ _ _ e in (omega arith, omega arith)
     go place.Nowhere e = let i = record-inside g (o .law) j below in (omega (arith, o .recordsLong), omega (arith, o .law .sizes .few))
 
 latest-if : (a : Areas) (log : List ℕ) (index time : ℕ) → LatestIf (length (a .records)) (length log) (latestOf a log index time)

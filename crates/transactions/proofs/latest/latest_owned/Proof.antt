@@ -11,12 +11,10 @@ decided : (c : tie.After-latest-row) → let a = c .before .before .before .befo
     ownedLatest (a .g) (a .records .now) (a .log .now) (a .time) (a .j) ≡ rowOrRecord (c .latest-row .result .row) (a .j)
 unfolding ownedLatest
 decided c =
-    let l = c .before .before .before in
-    let h = l .before .before in
+    let h = c .before .before .before .before in
     rw (
-      ← h .stamp-high .ensures,
-      eq-eqb _ _ (l .before .if1 .left),
-      ← l .stamp-low .ensures,
+      ← h .before .stamp .ensures,
+      eq-eqb _ _ (h .if1 .left),
       ← c .before .before .rows .ensures,
       ← c .before .record-address .ensures,
       ← c .latest-row .ensures,
@@ -28,7 +26,7 @@ latest-owned-spec =
     tie.close
     (tie.spec
     (λ c κs. search needs)
-    (λ c. rw (← c .before .stamp-high .ensures, ne-eqb _ _ (c .if1 .taken)))
-    (λ c κs. search needs) (λ c κs. search needs) (λ c κs. search needs) (λ c κs. search needs) (λ c. search needs) (λ c. search needs)
+    (λ c. rw (← c .before .stamp .ensures, ne-eqb _ _ (c .if1 .taken)))
+    (λ c. search needs) (λ c κs. search needs) (λ c κs. search needs) (λ c κs. search needs) (λ c. search needs) (λ c. search needs)
     (λ c. rw (decided (c .before .before .before), c .before .row .given .1))
     (λ c. rw (decided (c .before .before), c .enum-told .given .1)))

@@ -13,11 +13,11 @@ use Rattle.transactions.proofs.latest.latest_row.Statement.{statement}
 use Rattle.transactions.proofs.latest.latest_row.Tie as tie
 
 abbrev Inv-loop : tie.InvT-loop
-Inv-loop log n record-at stamp time found₀ least₀ k₀ found least k =
-    (k ≤ n) × (bestOf found n least ≡ latestRow log record-at time (firstBest stamp time) k)
+Inv-loop f log n record-at stamp time found₀ least₀ k₀ found least k =
+    (k ≤ n) × (bestOf found n least ≡ latestRow f log record-at time (firstBest stamp time) k)
 
 abbrev μ-loop : tie.MeasureT-loop
-μ-loop log n record-at stamp time found₀ least₀ k₀ found least k = n - k
+μ-loop f log n record-at stamp time found₀ least₀ k₀ found least k = n - k
 
 is-later-requires : tie.Need-is-later-requires Inv-loop μ-loop
 is-later-requires c κs = let b = below rowSize (c .loop-test .taken) in let p = c .before .before .before .before .pre in omega arith
