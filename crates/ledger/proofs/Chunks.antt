@@ -246,7 +246,8 @@ module _ (f : Format) (size a : ℕ) (few : size ≤ 4096) (word : a < 429496729
   unfolding grantedChunk
   guard-stands s h vs e =
       let c = chunkOf f (repeated size (wordBytes f grantFill)) redzone (codeOf s) (tagOf a state.Allocated .t0) (tagOf a state.Allocated .t1) in
-      let l : length c ≡ size + 16 = length-chunkOf f (repeated size (wordBytes f grantFill)) _ _ _ _ ∙ ap (λ (x : ℕ). x + 16) (length-repeated size grantFill) in
+      let l : length c ≡ size + 16 = length-chunkOf f (repeated size (wordBytes f grantFill)) _ _ _ _
+      ∙ ap (λ (x : ℕ). x + 16) (length-repeated size (wordBytes f grantFill)) in
       ap (λ (x : ℕ). getD (sets (set c s guard) 0 vs) x 0) (sym (add-zero s))
       ∙ sym (getD-part (sets (set c s guard) 0 vs) s 1 0 (omega arith))
       ∙ ap (λ (x : List ℕ). getD x 0 0) (part-after vs (set c s guard) 0 s 1 (omega arith))
