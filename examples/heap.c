@@ -3,7 +3,7 @@
 
 #include "combgallop.h"
 
-static uint8_t sheet[48], heap[3 * (24 + 16)], records[3 * 96];
+static uint8_t sheet[CG_SHEET_LENGTH], heap[3 * (24 + 16)], records[3 * CG_RECORD_LENGTH];
 
 static int print_report(void)
 {
@@ -17,8 +17,9 @@ static int print_report(void)
 int main(void)
 {
     const uint32_t heap_base = 0x1000, uptime = 5000, thread = 0x40;
-    if (cg_lay_out(0x70, heap_base, 0x2000, 24, 3, sheet, sizeof sheet, heap, sizeof heap,
-                   records, sizeof records))
+    const bool low_first = false; /* words stand high byte first */
+    if (cg_lay_out(low_first, 0x70, heap_base, 0x2000, 24, 3, sheet, sizeof sheet, heap,
+                   sizeof heap, records, sizeof records))
         return 1;
     uint64_t answer = cg_allocate(sheet, sizeof sheet, heap, sizeof heap, records,
                                   sizeof records, false, 20, uptime, thread);

@@ -1,6 +1,6 @@
 //! Lays out a heap of three buffers, uses it, hurts it, and prints a report each time.
 
-use combgallop::{allocate, lay_out, report, show, store, Grant, Refusal};
+use combgallop::{allocate, lay_out, report, show, store, Grant, Order, Refusal};
 
 fn print_report(sheet: &[u8], heap: &[u8], records: &[u8]) -> Result<(), Refusal> {
     let mut output = [0; 256];
@@ -10,9 +10,10 @@ fn print_report(sheet: &[u8], heap: &[u8], records: &[u8]) -> Result<(), Refusal
 }
 
 fn main() -> Result<(), Refusal> {
-    let (mut sheet, mut heap, mut records) = ([0; 48], [0; 3 * (24 + 16)], [0; 3 * 96]);
+    let (mut sheet, mut heap, mut records) = ([0; 52], [0; 3 * (24 + 16)], [0; 3 * 96]);
     let (heap_base, uptime, thread) = (0x1000, 5000, 0x40);
     lay_out(
+        Order::HighFirst,
         0x70,
         heap_base,
         0x2000,

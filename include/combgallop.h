@@ -10,18 +10,25 @@
  * What a call writes to must be lent to that call alone and overlap no other area. No
  * call keeps what it was lent.
  *
- * All numbers in the areas stand with their highest byte first. By offset:
+ * An image has an order: its numbers stand with the highest byte first, or with the
+ * lowest. The sheet says which: its last field is 0 for high byte first and 1 for low
+ * byte first, and a sheet without that field means high byte first. The order holds for
+ * every number of heap, records and log; the sheet's own numbers always stand with the
+ * highest byte first. Only cg_lay_out is told an order; every other call reads it from
+ * the sheet. By offset:
  *
- *   sheet    48 bytes: eight fields of tag (1 byte), length (2 bytes) and body. Bodies:
+ *   sheet    52 bytes: nine fields of tag (1 byte), length (2 bytes) and body. Bodies:
  *            cache address 3, heap base 10, record base 17 (4 bytes each), buffer size
  *            24, chunk size 29, count of buffers 34 (2 bytes each), chain head 39
- *            (4 bytes), flags 46 (2 bytes, 0x020f)
+ *            (4 bytes), flags 46 (2 bytes, 0x020f), order 51 (1 byte). Or 48 bytes: the
+ *            same without the last field.
  *   heap     a chunk for each buffer: the buffer, then 16 bytes of redzone and tag.
  *            Chunk size is buffer size plus 16. Buffer i is at i times the chunk size,
  *            and its address is the heap base plus that.
  *   records  a record of 96 bytes for each buffer: next 0, buffer address 4, slab 8,
- *            cache 12, timestamp 16 (8 bytes; the low half, at 20, is the uptime in ms),
- *            thread 24; the rest is not read
+ *            cache 12, timestamp 16 (one number of 8 bytes, the uptime in ms; its low
+ *            half is at 20, or at 16 where the low byte stands first), thread 24; the
+ *            rest is not read
  *   log      rows of 16 bytes: record address 0, uptime in ms 4, thread 8, kind 12
  *            (1 allocate, 2 free; no rule reads it)
  *
@@ -48,7 +55,8 @@ extern "C" {
 
 /* Lengths, in bytes but for the count of buffers. */
 enum {
-    CG_SHEET_LENGTH = 48,
+    CG_SHEET_LENGTH = 52,       /* what cg_lay_out writes and needs */
+    CG_SHORT_SHEET_LENGTH = 48, /* the form without an order, read as high byte first */
     CG_RECORD_LENGTH = 96,
     CG_ROW_LENGTH = 16,
     CG_BUFFERS_MOST = 512,
@@ -83,8 +91,9 @@ enum {
 
 /* Refusals: why a call was not carried out. */
 enum {
-    CG_BAD_SHEET = 1,      /* the sheet is not 48 bytes of the stated tags and lengths */
-    CG_BAD_NUMBER = 2,     /* a number of the sheet, or an argument of lay out, breaks a limit */
+    CG_BAD_SHEET = 1,      /* the sheet has neither form: length, tags, lengths of bodies */
+    CG_BAD_NUMBER = 2,     /* a number of the sheet, or an argument of lay out, breaks a limit,
+                              or the sheet's order is neither 0 nor 1 */
     CG_BAD_LENGTH = 3,     /* an area or the log has a wrong length */
     CG_NO_SUCH_BUFFER = 4, /* no buffer starts at the address, or the index is not below n */
     CG_NO_ROOM = 5,        /* the chain's head is 0 */
@@ -189,16 +198,19 @@ uint64_t cg_report(const uint8_t *sheet, size_t sheet_length,
 
 /*
  * Writes a sheet, a heap and records: `count` free buffers of `size` bytes, buffer i
- * paired with record i, and the chain through all of them in that order.
+ * paired with record i, and the chain through all of them in that order. Words stand low
+ * byte first when `low_first` is true, else high byte first; the sheet says so in its
+ * last field.
  *
  * Value: 0.
- * Refusals: 1 when sheet_length is not 48; 2 when an argument breaks a limit: size is
+ * Refusals: 1 when sheet_length is not 52; 2 when an argument breaks a limit: size is
  * a multiple of 8 from 8 to 4,096, count is 1 to 512, count times (size + 16) is at most
  * 65,536, both bases are non-zero multiples of 8, neither area passes 2^32, and they
  * share no address; 3 when heap_length is not count times (size + 16), or
  * records_length not count times 96.
  */
-uint64_t cg_lay_out(uint32_t cache, uint32_t heap_base, uint32_t record_base,
+uint64_t cg_lay_out(bool low_first,
+                    uint32_t cache, uint32_t heap_base, uint32_t record_base,
                     uint32_t size, uint32_t count,
                     uint8_t *sheet, size_t sheet_length,
                     uint8_t *heap, size_t heap_length,

@@ -62,6 +62,7 @@ extern "C" {
     ) -> u64;
 
     pub fn cg_lay_out(
+        low_first: bool,
         cache: u32,
         heap_base: u32,
         record_base: u32,

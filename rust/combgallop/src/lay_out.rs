@@ -1,10 +1,13 @@
 //! A fresh image.
 
-use crate::{ffi, Answer, Refusal};
+use crate::{ffi, Answer, Order, Refusal};
 
 /// Writes all three areas: `count` free buffers of `size` bytes, buffer i paired with
-/// record i, and the chain through them in order. A refusal changes nothing.
+/// record i, and the chain through them in order. The words of heap and records stand in
+/// the order given, which the sheet then says; the sheet takes 52 bytes. A refusal changes
+/// nothing.
 pub fn lay_out(
+    order: Order,
     cache: u32,
     heap_base: u32,
     record_base: u32,
@@ -15,6 +18,7 @@ pub fn lay_out(
     records: &mut [u8],
 ) -> Result<(), Refusal> {
     let answer = lay_out_answer(
+        order,
         cache,
         heap_base,
         record_base,
@@ -29,6 +33,7 @@ pub fn lay_out(
 
 /// As `lay_out`, with the answer as the library gives it.
 pub fn lay_out_answer(
+    order: Order,
     cache: u32,
     heap_base: u32,
     record_base: u32,
@@ -42,6 +47,7 @@ pub fn lay_out_answer(
     // can reach the three areas before the call returns.
     let answer = unsafe {
         ffi::cg_lay_out(
+            order.is_low_first(),
             cache,
             heap_base,
             record_base,

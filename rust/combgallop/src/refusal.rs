@@ -73,8 +73,11 @@ impl Refusal {
     /// What it means, without the damage met.
     fn meaning(self) -> &'static str {
         match self {
-            Refusal::BadSheet => "the sheet is not 48 bytes with the right tags and lengths",
-            Refusal::BadNumber => "a number of the sheet breaks a limit",
+            Refusal::BadSheet => {
+                "the sheet has neither form, 52 or 48 bytes with the right tags and lengths, or is \
+                 not the 52 bytes that lay out writes"
+            }
+            Refusal::BadNumber => "a number of the sheet breaks a limit, or its order is none",
             Refusal::BadLength => "the heap, the records or the log have a wrong length",
             Refusal::NoSuchBuffer => "no buffer has this address or index",
             Refusal::NoRoom => "no buffer is left on the chain of free buffers",

@@ -15,7 +15,7 @@ pub fn show<'a>(
     Ok(&heap[start..start + length as usize])
 }
 
-/// The body of a sheet's second field.
+/// The body of a sheet's second field, which stands high byte first in every image.
 fn heap_base(sheet: &[u8]) -> u32 {
     u32::from_be_bytes([sheet[10], sheet[11], sheet[12], sheet[13]])
 }

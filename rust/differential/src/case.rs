@@ -43,7 +43,7 @@ impl Display for Case {
 
 impl Display for Image {
     fn fmt(&self, out: &mut Formatter) -> Result {
-        writeln!(out, "{:x?}", self.shape)?;
+        writeln!(out, "{:?} {:x?}", self.form, self.shape)?;
         let areas = [
             ("sheet", &self.sheet),
             ("heap", &self.heap),

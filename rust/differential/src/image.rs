@@ -1,8 +1,10 @@
 //! An image's areas and log, and where things stand in them.
 
-use reference::lay_out;
+use reference::{lay_out, Order, SHEET_LENGTH};
 
-pub const SHEET_LENGTH: usize = 48;
+use crate::words::{put_sheet_word, put_word, sheet_word, word};
+use crate::Form;
+
 pub const RECORD_SIZE: usize = 96;
 pub const ROW_SIZE: usize = 16;
 
@@ -15,11 +17,37 @@ pub const CHUNK_SIZE_BODY: usize = 29;
 pub const COUNT_BODY: usize = 34;
 pub const HEAD_BODY: usize = 39;
 pub const FLAGS_BODY: usize = 46;
+pub const ORDER_BODY: usize = 51;
 
 /// Where the words stand in a record.
 pub const NEXT: usize = 0;
 pub const ADDRESS: usize = 4;
-pub const STAMP_HIGH: usize = 16;
+
+/// Where the halves of a record's stamp stand: it is one number of eight bytes (W5).
+pub fn stamp_high(order: Order) -> usize {
+    match order {
+        Order::HighFirst => 16,
+        Order::LowFirst => 20,
+    }
+}
+
+pub fn stamp_low(order: Order) -> usize {
+    match order {
+        Order::HighFirst => 20,
+        Order::LowFirst => 16,
+    }
+}
+
+pub const FREE_FILL: u32 = 0xdead_beef;
+pub const REDZONE: u32 = 0xfeed_face;
+
+/// R0 after a grant of the full size: its first byte is the guard.
+pub fn full_r0(order: Order) -> u32 {
+    match order {
+        Order::HighFirst => 0xbbed_face,
+        Order::LowFirst => 0xfeed_fabb,
+    }
+}
 
 pub const ALLOCATED_TAG: u32 = 0xa110_c8ed;
 pub const FREE_TAG: u32 = 0xf4ee_f4ee;
@@ -74,10 +102,11 @@ impl Shape {
     }
 }
 
-/// An image with its log. The shape is what it was laid out with; the areas may have
-/// been hurt since.
+/// An image with its log. The form and the shape are what it was made with; the areas
+/// may have been hurt since.
 #[derive(Clone, Debug)]
 pub struct Image {
+    pub form: Form,
     pub shape: Shape,
     /// The uptimes that stamps and log rows are drawn from: few, so that ties occur.
     pub times: [u32; 5],
@@ -88,12 +117,14 @@ pub struct Image {
 }
 
 impl Image {
-    /// An image as the reference lays it out, with an empty log.
-    pub fn laid_out(shape: Shape, times: [u32; 5]) -> Image {
+    /// An image as the reference lays it out, with an empty log. The short form is the
+    /// start of the long one: its words stand high byte first.
+    pub fn laid_out(form: Form, shape: Shape, times: [u32; 5]) -> Image {
         let mut sheet = vec![0; SHEET_LENGTH];
         let mut heap = vec![0; shape.heap_length()];
         let mut records = vec![0; shape.record_length()];
         lay_out(
+            form.order(),
             shape.cache,
             shape.heap_base,
             shape.record_base,
@@ -104,7 +135,9 @@ impl Image {
             &mut records,
         )
         .expect("a lawful shape");
+        sheet.truncate(form.sheet_length());
         Image {
+            form,
             shape,
             times,
             sheet,
@@ -123,9 +156,54 @@ impl Image {
         }
     }
 
-    /// The report program's input.
-    pub fn input(&self) -> Vec<u8> {
+    /// The areas and the log, one behind the other.
+    pub fn bytes(&self) -> Vec<u8> {
         [&self.sheet[..], &self.heap, &self.records, &self.log].concat()
+    }
+
+    /// The report program's input: one byte, the sheet's length, and then all bytes. A
+    /// length that takes more than one byte is no sheet's, and is cut to its lowest.
+    pub fn input(&self) -> Vec<u8> {
+        [vec![self.sheet.len() as u8], self.bytes()].concat()
+    }
+
+    /// The order of the words that it was made with.
+    pub fn order(&self) -> Order {
+        self.form.order()
+    }
+
+    /// The form that its sheet has now, or that it was made with where the sheet is
+    /// refused.
+    pub fn read_form(&self) -> Form {
+        Form::of_sheet(&self.sheet).unwrap_or(self.form)
+    }
+
+    pub fn heap_word(&self, at: usize) -> u32 {
+        word(self.order(), &self.heap, at)
+    }
+
+    pub fn put_heap_word(&mut self, at: usize, word: u32) {
+        put_word(self.order(), &mut self.heap, at, word);
+    }
+
+    pub fn record_word(&self, at: usize) -> u32 {
+        word(self.order(), &self.records, at)
+    }
+
+    pub fn put_record_word(&mut self, at: usize, word: u32) {
+        put_word(self.order(), &mut self.records, at, word);
+    }
+
+    pub fn put_log_word(&mut self, at: usize, word: u32) {
+        put_word(self.order(), &mut self.log, at, word);
+    }
+
+    pub fn head(&self) -> u32 {
+        sheet_word(&self.sheet, HEAD_BODY)
+    }
+
+    pub fn put_head(&mut self, head: u32) {
+        put_sheet_word(&mut self.sheet, HEAD_BODY, head);
     }
 
     /// Where buffer `index` starts in the heap area.
@@ -152,38 +230,6 @@ impl Image {
 
     /// The tag word of a buffer, 0 where the heap area has been cut before it.
     pub fn tag(&self, index: usize) -> u32 {
-        word(&self.heap, self.t0(index)) ^ word(&self.heap, self.t1(index))
-    }
-}
-
-/// The big-endian word at an offset, 0 where the area ends before it does.
-pub fn word(area: &[u8], at: usize) -> u32 {
-    match area.get(at..at + 4) {
-        Some(bytes) => u32::from_be_bytes([bytes[0], bytes[1], bytes[2], bytes[3]]),
-        None => 0,
-    }
-}
-
-/// Writes a big-endian word, unless the area ends before it does.
-pub fn put_word(area: &mut [u8], at: usize, word: u32) {
-    put_bytes(area, at, &word.to_be_bytes());
-}
-
-/// Writes a big-endian number of two bytes, unless the area ends before it does.
-pub fn put_half(area: &mut [u8], at: usize, half: u16) {
-    put_bytes(area, at, &half.to_be_bytes());
-}
-
-/// Writes bytes, unless the area ends before they do.
-pub fn put_bytes(area: &mut [u8], at: usize, bytes: &[u8]) {
-    if let Some(place) = area.get_mut(at..at + bytes.len()) {
-        place.copy_from_slice(bytes);
-    }
-}
-
-/// Changes the byte at an offset to another, unless the area ends before it.
-pub fn change_byte(area: &mut [u8], at: usize, difference: u8) {
-    if let Some(byte) = area.get_mut(at) {
-        *byte ^= difference.max(1);
+        self.heap_word(self.t0(index)) ^ self.heap_word(self.t1(index))
     }
 }

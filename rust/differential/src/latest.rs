@@ -2,8 +2,10 @@
 
 use reference::Latest;
 
+use crate::image::{stamp_low, RECORD_BASE_BODY};
 use crate::samples::dump;
-use crate::{put_word, word, Image, Sequence};
+use crate::words::{sheet_word, word};
+use crate::{Form, Image, Sequence, FORMS};
 
 /// What the youngest can be, and what it can be chosen from.
 pub const CHOICES: [&str; 5] = [
@@ -14,10 +16,8 @@ pub const CHOICES: [&str; 5] = [
     "greater stamp that is older",
 ];
 
-/// Where words stand in a record, in a row and in the sheet.
-const STAMP_LOW: usize = 20;
+/// Where the uptime stands in a row.
 const UPTIME: usize = 4;
-const RECORD_BASE_BODY: usize = 17;
 
 /// Which of the choices an answer was.
 pub fn choices_met(image: &Image, found: Latest) -> Vec<&'static str> {
@@ -37,20 +37,24 @@ pub fn choices_met(image: &Image, found: Latest) -> Vec<&'static str> {
 }
 
 /// The stamp of what was chosen; those of the rows that name the record; the record's.
+/// All are read in the order that the sheet has now.
 fn candidates(image: &Image, found: Latest) -> (u32, Vec<u32>, u32) {
-    let base = word(&image.sheet, RECORD_BASE_BODY);
+    let order = image.read_form().order();
+    let base = sheet_word(&image.sheet, RECORD_BASE_BODY);
     let named = match found {
-        Latest::Row(row) => word(&image.log, 16 * row),
+        Latest::Row(row) => word(order, &image.log, 16 * row),
         Latest::Record(record) => base + 96 * record as u32,
     };
-    let stamp = word(&image.records, (named - base) as usize + STAMP_LOW);
+    let stamp_at = (named - base) as usize + stamp_low(order);
+    let stamp = word(order, &image.records, stamp_at);
     let rows = image.log.chunks_exact(16);
-    let rows = rows.filter(|row| word(row, 0) == named);
+    let rows = rows.filter(|row| word(order, row, 0) == named);
     let chosen = match found {
-        Latest::Row(row) => word(&image.log, 16 * row + UPTIME),
+        Latest::Row(row) => word(order, &image.log, 16 * row + UPTIME),
         Latest::Record(_) => stamp,
     };
-    (chosen, rows.map(|row| word(row, UPTIME)).collect(), stamp)
+    let uptimes = rows.map(|row| word(order, row, UPTIME));
+    (chosen, uptimes.collect(), stamp)
 }
 
 /// Mostly a buffer's index, now and then the first too large, or any.
@@ -71,21 +75,28 @@ pub fn some_now(image: &Image, sequence: &mut Sequence) -> u32 {
     sequence.pick(&[time, time, time.wrapping_add(1), time.wrapping_sub(1), any])
 }
 
-/// The dump with a log of two rows, and an uptime now, for each way that the stamp of
-/// record 1, the two rows and now can stand to each other and to the wrap-around.
+/// In each form, the dump with a log of two rows, and an uptime now, for each way that
+/// the stamp of record 1, the two rows and now can stand to each other and to the
+/// wrap-around.
 pub fn each_order_of_uptimes(mut see: impl FnMut(&Image, u32)) {
+    for form in FORMS {
+        each_choice_of_uptimes(form, &mut see);
+    }
+}
+
+fn each_choice_of_uptimes(form: Form, see: &mut impl FnMut(&Image, u32)) {
     const TIMES: [u32; 7] = [0, 1, 2, 0x7fff_ffff, 0x8000_0000, 0xffff_fffe, 0xffff_ffff];
-    let mut image = dump();
+    let mut image = dump(form);
     let record = image.shape.record_address(1);
     image.log = vec![0; 32];
-    put_word(&mut image.log, 0, record);
+    image.put_log_word(0, record);
     for choice in 0..2 * 7 * 7 * 7 * 7 {
         let time = |place: u32| TIMES[choice / 2 / 7usize.pow(place) % 7];
         let second_named = record + 96 * (choice as u32 % 2);
-        put_word(&mut image.records, 96 + STAMP_LOW, time(0));
-        put_word(&mut image.log, UPTIME, time(1));
-        put_word(&mut image.log, 16, second_named);
-        put_word(&mut image.log, 16 + UPTIME, time(2));
+        image.put_record_word(96 + stamp_low(form.order()), time(0));
+        image.put_log_word(UPTIME, time(1));
+        image.put_log_word(16, second_named);
+        image.put_log_word(16 + UPTIME, time(2));
         see(&image, time(3));
     }
 }

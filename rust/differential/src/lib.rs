@@ -1,9 +1,11 @@
 //! Images on which the verified library and the reference must agree: sound ones,
-//! made with the reference's calls, and ones hurt in every way the rules name.
+//! made with the reference's calls, and ones hurt in every way the rules name, in both
+//! orders and in both forms of the sheet.
 //!
 //! All of it follows from a seed, so that each image can be made again.
 
 mod case;
+mod form;
 pub mod hurt;
 mod image;
 pub mod latest;
@@ -11,9 +13,13 @@ pub mod neighbours;
 pub mod samples;
 mod sequence;
 mod sound;
+pub mod stored;
 pub mod trace;
+mod words;
 
 pub use case::Case;
-pub use image::{put_word, word, Image, Shape};
+pub use form::{Form, FORMS, LONG_FORMS};
+pub use image::{full_r0, Image, Shape};
 pub use sequence::Sequence;
 pub use sound::{move_areas, some_shape, sound_image};
+pub use words::{put_sheet_word, word_bytes};

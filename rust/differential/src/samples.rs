@@ -1,20 +1,28 @@
-//! The two stored images: the guide's dump, and the guide's corrupt buffer.
+//! The stored images: the guide's dump, and the guide's corrupt buffer.
 
-use crate::image::{put_word, ADDRESS, HEAD_BODY, NEXT, RECORD_SIZE};
-use crate::{Image, Shape};
+use reference::Order;
+
+use crate::image::{ADDRESS, NEXT, RECORD_SIZE};
+use crate::words::word_bytes;
+use crate::{Form, Image, Shape};
 
 const CACHE: u32 = 0x7003_9928;
 
-/// Three buffers of 24 bytes, the middle one allocated with 20.
+/// Three buffers of 24 bytes, the middle one allocated with 20. Its last word is as the
+/// grant's fill left it, before the guard.
 #[rustfmt::skip]
 const DUMP_HEAP: [u32; 30] = [
     0xdeadbeef, 0xdeadbeef, 0xdeadbeef, 0xdeadbeef, 0xdeadbeef, 0xdeadbeef,
     0xfeedface, 0xfeedface, 0x70ae3260, 0x8440c68e,
-    0x00000005, 0x0004ef83, 0x00000000, 0x00000000, 0x00000001, 0xbbddcafe,
+    0x00000005, 0x0004ef83, 0x00000000, 0x00000000, 0x00000001, 0xbaddcafe,
     0xfeedface, 0x0000139d, 0x70ae3200, 0xd1befaed,
     0xdeadbeef, 0xdeadbeef, 0xdeadbeef, 0xdeadbeef, 0xdeadbeef, 0xdeadbeef,
     0xfeedface, 0xfeedface, 0x70ae31a0, 0x8440c54e,
 ];
+
+/// Where the guard of the middle buffer stands. It is one byte in the fill of the grant,
+/// ba dd ca fe, or fe ca dd ba where the low byte stands first.
+const GUARD: usize = 60;
 
 /// A free buffer of 24 bytes whose first word was overwritten.
 #[rustfmt::skip]
@@ -25,7 +33,7 @@ const CORRUPT_HEAP: [u32; 10] = [
 
 /// The dump case: record 0 names buffer 2 and record 2 names buffer 0, as the guide's
 /// dump pairs them. The chain is record 2, then record 0.
-pub fn dump() -> Image {
+pub fn dump(form: Form) -> Image {
     let shape = Shape {
         cache: CACHE,
         heap_base: 0x70a9_add8,
@@ -33,22 +41,21 @@ pub fn dump() -> Image {
         size: 24,
         count: 3,
     };
-    let mut image = Image::laid_out(shape, [0; 5]);
-    image.heap = bytes(&DUMP_HEAP);
+    let mut image = Image::laid_out(form, shape, [0; 5]);
+    image.heap = bytes(form.order(), &DUMP_HEAP);
+    image.heap[GUARD] = 0xbb;
     for record in 0..3 {
         let start = record * RECORD_SIZE;
-        let address = shape.buffer_address(2 - record);
-        put_word(&mut image.records, start + NEXT, 0);
-        put_word(&mut image.records, start + ADDRESS, address);
+        image.put_record_word(start + NEXT, 0);
+        image.put_record_word(start + ADDRESS, shape.buffer_address(2 - record));
     }
-    let (first, last) = (shape.record_address(2), shape.record_address(0));
-    put_word(&mut image.records, 2 * RECORD_SIZE + NEXT, last);
-    put_word(&mut image.sheet, HEAD_BODY, first);
+    image.put_record_word(2 * RECORD_SIZE + NEXT, shape.record_address(0));
+    image.put_head(shape.record_address(2));
     image
 }
 
 /// One buffer, whose record is where its T0 says.
-pub fn corrupt() -> Image {
+pub fn corrupt(form: Form) -> Image {
     let shape = Shape {
         cache: CACHE,
         heap_base: 0x702b_abc0,
@@ -56,11 +63,21 @@ pub fn corrupt() -> Image {
         size: 24,
         count: 1,
     };
-    let mut image = Image::laid_out(shape, [0; 5]);
-    image.heap = bytes(&CORRUPT_HEAP);
+    let mut image = Image::laid_out(form, shape, [0; 5]);
+    image.heap = bytes(form.order(), &CORRUPT_HEAP);
     image
 }
 
-fn bytes(words: &[u32]) -> Vec<u8> {
-    words.iter().flat_map(|word| word.to_be_bytes()).collect()
+/// The images of the samples, by name.
+pub fn stored_samples() -> [(&'static str, Image); 3] {
+    [
+        ("dump", dump(Form::Short)),
+        ("dump_low", dump(Form::Low)),
+        ("corrupt", corrupt(Form::Short)),
+    ]
+}
+
+fn bytes(order: Order, words: &[u32]) -> Vec<u8> {
+    let bytes = words.iter().flat_map(|word| word_bytes(order, *word));
+    bytes.collect()
 }

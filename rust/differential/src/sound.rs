@@ -2,8 +2,9 @@
 
 use reference::{allocate, free, show, store, Grant};
 
-use crate::image::{put_word, word, HEAD_BODY, NEXT, RECORD_SIZE};
-use crate::{Image, Sequence, Shape};
+use crate::image::{FREE_FILL, NEXT, RECORD_SIZE};
+use crate::words::{put_word, word, word_bytes};
+use crate::{Form, Image, Sequence, Shape};
 
 /// The sizes and counts at the ends of what is lawful. 128 times 512 and 4,096 times
 /// 16 are the largest heap area exactly.
@@ -21,9 +22,10 @@ const ADDRESSES: u64 = 1 << 32;
 
 /// An image without a fault, with a log.
 pub fn sound_image(sequence: &mut Sequence) -> Image {
+    let form = some_form(sequence);
     let shape = some_shape(sequence);
     let times = some_times(sequence);
-    let mut image = Image::laid_out(shape, times);
+    let mut image = Image::laid_out(form, shape, times);
     run_calls(&mut image, sequence);
     pair_anew(&mut image, sequence);
     if sequence.once_in(2) {
@@ -31,6 +33,11 @@ pub fn sound_image(sequence: &mut Sequence) -> Image {
     }
     image.log = some_log(&image, sequence);
     image
+}
+
+/// Either order as often as the other, and either form of the one that has two.
+fn some_form(sequence: &mut Sequence) -> Form {
+    sequence.pick(&[Form::Low, Form::Low, Form::High, Form::Short])
 }
 
 /// The numbers of a lawful lay out.
@@ -164,7 +171,8 @@ fn store_some(image: &mut Image, address: u32, sequence: &mut Sequence) {
     let room = shown.expect("a granted buffer is shown").len();
     let offset = sequence.below(room + 1);
     let bytes = if sequence.once_in(2) {
-        [0xde, 0xad, 0xbe, 0xef].repeat(image.shape.size / 4)[offset..room].to_vec()
+        let fill = word_bytes(image.order(), FREE_FILL);
+        fill.repeat(image.shape.size / 4)[offset..room].to_vec()
     } else {
         let length = sequence.below(room - offset + 1);
         sequence.bytes(length)
@@ -193,28 +201,29 @@ fn pair_anew(image: &mut Image, sequence: &mut Sequence) {
         None => address,
     };
 
-    let head = moved(word(&image.sheet, HEAD_BODY));
-    put_word(&mut image.sheet, HEAD_BODY, head);
+    image.put_head(moved(image.head()));
+    let order = image.order();
     let old_records = image.records.clone();
     for (old, &place) in old_records.chunks_exact(RECORD_SIZE).zip(&places) {
         let start = place * RECORD_SIZE;
         image.records[start..start + RECORD_SIZE].copy_from_slice(old);
-        put_word(&mut image.records, start + NEXT, moved(word(old, NEXT)));
+        image.put_record_word(start + NEXT, moved(word(order, old, NEXT)));
     }
     for buffer in 0..shape.count {
         let (t0, t1) = (image.t0(buffer), image.t1(buffer));
         let tag = image.tag(buffer);
-        let own_record = moved(word(&image.heap, t0));
-        put_word(&mut image.heap, t0, own_record);
-        put_word(&mut image.heap, t1, own_record ^ tag);
+        let own_record = moved(image.heap_word(t0));
+        image.put_heap_word(t0, own_record);
+        image.put_heap_word(t1, own_record ^ tag);
     }
 }
 
 /// Puts any words where no rule reads: slab, cache, thread and all that follow.
 fn fill_unread_words(image: &mut Image, sequence: &mut Sequence) {
+    let order = image.order();
     for record in image.records.chunks_exact_mut(RECORD_SIZE) {
         for at in [8, 12].into_iter().chain((24..RECORD_SIZE).step_by(4)) {
-            put_word(record, at, sequence.word());
+            put_word(order, record, at, sequence.word());
         }
     }
 }
@@ -244,5 +253,6 @@ fn some_row(image: &Image, sequence: &mut Sequence) -> Vec<u8> {
         _ => sequence.pick(&image.times),
     };
     let words = [named, uptime, sequence.word(), sequence.below(4) as u32];
-    words.iter().flat_map(|word| word.to_be_bytes()).collect()
+    let bytes = words.map(|word| word_bytes(image.order(), word));
+    bytes.concat()
 }

@@ -1,11 +1,15 @@
 //! The calls of the traced program, `crates/call_trace`, made on the reference. Each
 //! answer is a line; the head of that program's `main.rt` says how a line is written.
+//! All calls are made twice, each time on areas of zeros: first with the high byte first
+//! and then with the low one.
 
 use reference::{
-    allocate, free, inspect, latest, lay_out, show, store, Finding, Grant, Latest, Refusal, Verdict,
+    allocate, free, inspect, latest, lay_out, show, store, Finding, Grant, Latest, Order, Refusal,
+    Verdict, SHEET_LENGTH,
 };
 
-use crate::image::{RECORD_SIZE, ROW_SIZE, SHEET_LENGTH};
+use crate::image::{RECORD_SIZE, ROW_SIZE};
+use crate::words::{word, word_bytes};
 
 const CACHE: u32 = 0x7003_9928;
 const HEAP_BASE: u32 = 0x70a9_add8;
@@ -35,6 +39,7 @@ const BLANK: Finding = Finding {
 
 /// An image, its log, and the lines of the calls made on it.
 struct Trace {
+    order: Order,
     sheet: [u8; SHEET_LENGTH],
     heap: [u8; 120],
     records: [u8; 3 * RECORD_SIZE],
@@ -42,17 +47,23 @@ struct Trace {
     lines: String,
 }
 
-/// All lines.
+/// All lines, those of each order behind a line of its own.
 pub fn trace() -> String {
+    let high = trace_in(Order::HighFirst);
+    let low = trace_in(Order::LowFirst);
+    format!("order high\n{high}order low\n{low}")
+}
+
+/// The lines of all calls in one order.
+fn trace_in(order: Order) -> String {
+    let log = LOG.as_flattened().iter();
+    let log = log.flat_map(|word| word_bytes(order, *word));
     let mut trace = Trace {
+        order,
         sheet: [0; SHEET_LENGTH],
         heap: [0; 120],
         records: [0; 3 * RECORD_SIZE],
-        log: LOG
-            .as_flattened()
-            .iter()
-            .flat_map(|word| word.to_be_bytes())
-            .collect(),
+        log: log.collect(),
         lines: String::new(),
     };
     trace.begin();
@@ -104,15 +115,16 @@ impl Trace {
     }
 
     fn read(&mut self) {
-        self.read_heap("byte", FIRST + 20, 1);
-        self.read_heap("byte", HEAP_BASE + 119, 1);
-        self.read_heap("byte", HEAP_BASE + 120, 1);
-        self.read_heap("byte", HEAP_BASE - 1, 1);
-        self.read_heap("word", THIRD + 24, 4);
-        self.read_heap("word", HEAP_BASE + 116, 4);
-        self.read_heap("word", HEAP_BASE + 117, 4);
-        let found = read(&self.records, RECORD_BASE, RECORD_BASE + 100, 4);
-        self.line("word", &found);
+        self.read_byte(FIRST + 20);
+        self.read_byte(HEAP_BASE + 119);
+        self.read_byte(HEAP_BASE + 120);
+        self.read_byte(HEAP_BASE - 1);
+        self.read_word(THIRD + 24);
+        self.read_word(HEAP_BASE + 116);
+        self.read_word(HEAP_BASE + 117);
+        let found = lent_part(&self.records, RECORD_BASE, RECORD_BASE + 100, 4);
+        let found = found.map(|bytes| word(self.order, bytes, 0));
+        self.line("word", &number_or_none(found));
     }
 
     fn hurt(&mut self) {
@@ -131,6 +143,7 @@ impl Trace {
 
     fn lay_out(&mut self) {
         let answer = lay_out(
+            self.order,
             CACHE,
             HEAP_BASE,
             RECORD_BASE,
@@ -199,25 +212,30 @@ impl Trace {
         }
     }
 
-    fn read_heap(&mut self, call: &str, address: u32, width: usize) {
-        let found = read(&self.heap, HEAP_BASE, address, width);
-        self.line(call, &found);
+    fn read_byte(&mut self, address: u32) {
+        let found = lent_part(&self.heap, HEAP_BASE, address, 1);
+        let found = found.map(|bytes| u32::from(bytes[0]));
+        self.line("byte", &number_or_none(found));
+    }
+
+    fn read_word(&mut self, address: u32) {
+        let found = lent_part(&self.heap, HEAP_BASE, address, 4);
+        let found = found.map(|bytes| word(self.order, bytes, 0));
+        self.line("word", &number_or_none(found));
     }
 }
 
 /// "A base address together with the lent bytes it stands for. A word partly outside
 /// it is no word."
-fn read(area: &[u8], base: u32, address: u32, width: usize) -> String {
-    let start = address.checked_sub(base).map(|start| start as usize);
-    let bytes = start.and_then(|start| area.get(start..start + width));
-    match bytes {
+fn lent_part(area: &[u8], base: u32, address: u32, width: usize) -> Option<&[u8]> {
+    let start = address.checked_sub(base)? as usize;
+    area.get(start..start + width)
+}
+
+fn number_or_none(found: Option<u32>) -> String {
+    match found {
         None => String::from(" none"),
-        Some(bytes) => {
-            let number = bytes
-                .iter()
-                .fold(0, |high, low| high * 256 + u32::from(*low));
-            format!(" {number}")
-        }
+        Some(number) => format!(" {number}"),
     }
 }
 

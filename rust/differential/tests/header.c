@@ -1,11 +1,14 @@
-/* Reads the dump's image and writes what each declared function answers and fills. */
+/*
+ * Reads the dump's image, behind one byte with the length of its sheet, and writes what each
+ * declared function answers and fills; the calls, in both orders.
+ */
 #include <inttypes.h>
 #include <stdio.h>
 #include <string.h>
 
 #include "combgallop.h"
 
-enum { SHEET = 48, HEAP = 120, RECORDS = 288, ROWS = 10, OUTPUT = 65 };
+enum { SHEET_MOST = 52, HEAP = 120, RECORDS = 288, ROWS = 10, OUTPUT = 65 };
 
 static void print_answer(const char *name, uint64_t answer)
 {
@@ -24,29 +27,55 @@ static void print_numbers(const char *name, const uint32_t *numbers, size_t coun
 }
 
 /* The dump's image, whose parts stand one behind the other. */
-enum { IMAGE = SHEET + HEAP + RECORDS };
+static uint8_t image[SHEET_MOST + HEAP + RECORDS];
+static uint8_t *heap;
+static uint8_t *records;
+static size_t sheet_length;
+static bool low_first;
 
-static uint8_t image[IMAGE];
+/* Where the last byte of the flags stands, and that of the order. */
+enum { FLAGS_END = 47, ORDER = 51 };
 
-/* Where the last byte of the flags stands, and the next word of record 0. */
-enum { FLAGS_END = 47, LAST_NEXT = SHEET + HEAP };
+static bool read_image(void)
+{
+    size_t rest = HEAP + RECORDS;
+    int length = getchar();
 
-static void area_lengths(size_t sheet_length, size_t room)
+    if (length != CG_SHEET_LENGTH && length != CG_SHORT_SHEET_LENGTH)
+        return false;
+    sheet_length = (size_t)length;
+    heap = image + sheet_length;
+    records = heap + HEAP;
+    if (fread(image, 1, sheet_length + rest, stdin) != sheet_length + rest)
+        return false;
+    low_first = length == CG_SHEET_LENGTH && image[ORDER] == 1;
+    return true;
+}
+
+/* Writes a word in the image's order. */
+static void put_word(uint8_t *place, uint32_t word)
+{
+    int at;
+
+    for (at = 0; at < 4; at++)
+        place[at] = (uint8_t)(word >> 8 * (low_first ? at : 3 - at));
+}
+
+static void area_lengths(size_t length, size_t room)
 {
     uint32_t lengths[3] = {7, 7, 7};
 
-    print_answer("area lengths", cg_area_lengths(image, sheet_length, lengths, room));
+    print_answer("area lengths", cg_area_lengths(image, length, lengths, room));
     print_numbers("lengths", lengths, 3);
 }
 
 static void survey(size_t log_length, size_t rows_room, size_t chain_room)
 {
-    const uint8_t *heap = image + SHEET;
     const uint8_t log[16] = {0};
     uint32_t rows[ROWS] = {7, 7, 7, 7, 7, 7, 7, 7, 7, 7};
     uint32_t chain[4] = {7, 7, 7, 7};
 
-    print_answer("survey", cg_survey(image, SHEET, heap, HEAP, heap + HEAP, RECORDS, log,
+    print_answer("survey", cg_survey(image, sheet_length, heap, HEAP, records, RECORDS, log,
                                      log_length, rows, rows_room, chain, chain_room));
     print_numbers("rows", rows, ROWS);
     print_numbers("chain", chain, 4);
@@ -55,25 +84,23 @@ static void survey(size_t log_length, size_t rows_room, size_t chain_room)
 /* Both read the dump, with every refusal, and the survey its chain with every ending. */
 static void read_dump(void)
 {
-    const uint8_t no_record[4] = {0x70, 0xae, 0x32, 0x04};
-    const uint8_t first_met[4] = {0x70, 0xae, 0x32, 0x60};
-
-    area_lengths(SHEET, 3);
-    area_lengths(SHEET, 1);
-    area_lengths(SHEET - 1, 1);
+    area_lengths(sheet_length, 3);
+    area_lengths(sheet_length, 1);
+    area_lengths(sheet_length - 1, 1);
     survey(16, ROWS, 4);
     survey(0, ROWS - 2, 4);
     survey(0, ROWS, 2);
     survey(15, ROWS - 2, 2);
 
-    memcpy(image + LAST_NEXT, no_record, 4);
+    /* The next word of record 0: no record's address, and that of the first met. */
+    put_word(records, 0x70ae3204);
     survey(0, 9, 3);
-    memcpy(image + LAST_NEXT, first_met, 4);
+    put_word(records, 0x70ae3260);
     survey(0, 9, 3);
-    memset(image + LAST_NEXT, 0, 4);
+    put_word(records, 0);
 
     image[FLAGS_END] ^= 1;
-    area_lengths(SHEET, 1);
+    area_lengths(sheet_length, 1);
     survey(15, ROWS, 4);
     image[0] = 2;
     survey(15, ROWS, 4);
@@ -81,18 +108,40 @@ static void read_dump(void)
     image[FLAGS_END] ^= 1;
 }
 
+static void judge_dump(void)
+{
+    uint8_t row[16] = {0};
+    uint32_t rows[ROWS] = {0};
+    uint8_t output[OUTPUT] = {0};
+    uint32_t at;
+
+    print_answer("inspect", cg_inspect(image, sheet_length, heap, HEAP, records, RECORDS, rows,
+                                       ROWS));
+    print_numbers("rows", rows, ROWS);
+    print_answer("inspect", cg_inspect(image, sheet_length, heap, HEAP, records, RECORDS, rows,
+                                       8));
+    put_word(row, 0x70ae3200);
+    for (at = 0; at < 4; at++)
+        print_answer("latest", cg_latest(image, sheet_length, heap, HEAP, records, RECORDS, row,
+                                         sizeof row, at, 5));
+    print_answer("report", cg_report(image, sheet_length, heap, HEAP, records, RECORDS, row, 0,
+                                     output, 63));
+    print_answer("report", cg_report(image, sheet_length, heap, HEAP, records, RECORDS, row, 0,
+                                     output, OUTPUT));
+    fputs((const char *)output, stdout);
+}
+
 /* A fresh image of three buffers of 8 bytes. */
-enum { FRESH_HEAP = 72, BASE = 0x1000, STEP = 24 };
+enum { SHEET = CG_SHEET_LENGTH, FRESH_HEAP = 72, BASE = 0x1000, STEP = 24 };
 
 static uint8_t fresh_sheet[SHEET];
 static uint8_t fresh_heap[FRESH_HEAP];
 static uint8_t fresh_records[RECORDS];
 
-static void lay_out(size_t sheet_length, uint32_t size)
+static void lay_out(bool low, size_t length, uint32_t size)
 {
-    print_answer("lay out", cg_lay_out(0x11223344, BASE, 0x2000, size, 3, fresh_sheet,
-                                       sheet_length, fresh_heap, FRESH_HEAP, fresh_records,
-                                       RECORDS));
+    print_answer("lay out", cg_lay_out(low, 0x11223344, BASE, 0x2000, size, 3, fresh_sheet,
+                                       length, fresh_heap, FRESH_HEAP, fresh_records, RECORDS));
 }
 
 static void allocate(bool whole, uint32_t size)
@@ -114,27 +163,36 @@ static void store(uint32_t address, uint32_t offset, const char *text)
                                    strlen(text)));
 }
 
+static void print_bytes(const uint8_t *bytes, uint32_t count)
+{
+    uint32_t at;
+
+    for (at = 0; at < count; at++)
+        printf(" %02x", (unsigned)bytes[at]);
+    printf("\n");
+}
+
 static void show(uint32_t address)
 {
     uint64_t answer = cg_show(fresh_sheet, SHEET, fresh_heap, FRESH_HEAP, fresh_records, RECORDS,
                               address);
-    uint32_t at;
 
     print_answer("show", answer);
-    for (at = 0; at < cg_value(answer); at++)
-        printf(" %02x", (unsigned)fresh_heap[address - BASE + at]);
-    printf("\n");
+    print_bytes(fresh_heap + (address - BASE), cg_value(answer));
 }
 
 /* Every call, accepted and refused. Where `whole` is true, any size will do. */
-static void make_calls(void)
+static void make_calls(bool low)
 {
-    lay_out(SHEET - 1, 8);
-    lay_out(SHEET, 9);
-    lay_out(SHEET, 16);
-    lay_out(SHEET, 8);
+    lay_out(low, SHEET - 1, 8);
+    lay_out(low, CG_SHORT_SHEET_LENGTH, 8);
+    lay_out(low, SHEET, 9);
+    lay_out(low, SHEET, 16);
+    lay_out(low, SHEET, 8);
+    print_bytes(fresh_sheet + CG_SHORT_SHEET_LENGTH, 4);
     allocate(false, 9);
     allocate(false, 5);
+    print_bytes(fresh_records + 16, 12);
     allocate(true, 9);
     allocate(true, 0);
     allocate(false, 8);
@@ -150,33 +208,18 @@ static void make_calls(void)
     take_back(BASE + STEP, true, 0);
     store(BASE, 0, "");
     allocate(false, 8);
+    print_bytes(fresh_heap + STEP + 8, 8);
     fresh_heap[2 * STEP + 8] = 0;
     show(BASE + 2 * STEP);
 }
 
 int main(void)
 {
-    const uint8_t *heap = image + SHEET;
-    const uint8_t *records = heap + HEAP;
-    const uint8_t row[16] = {0x70, 0xae, 0x32, 0x00};
-    uint32_t rows[ROWS] = {0};
-    uint8_t output[OUTPUT] = {0};
-    uint32_t at;
-
-    if (fread(image, 1, IMAGE, stdin) != IMAGE)
+    if (!read_image())
         return 1;
     read_dump();
-    print_answer("inspect", cg_inspect(image, SHEET, heap, HEAP, records, RECORDS, rows, ROWS));
-    print_numbers("rows", rows, ROWS);
-    print_answer("inspect", cg_inspect(image, SHEET, heap, HEAP, records, RECORDS, rows, 8));
-    for (at = 0; at < 4; at++)
-        print_answer("latest", cg_latest(image, SHEET, heap, HEAP, records, RECORDS, row,
-                                         sizeof row, at, 5));
-    print_answer("report", cg_report(image, SHEET, heap, HEAP, records, RECORDS, row, 0, output,
-                                     63));
-    print_answer("report", cg_report(image, SHEET, heap, HEAP, records, RECORDS, row, 0, output,
-                                     OUTPUT));
-    fputs((const char *)output, stdout);
-    make_calls();
+    judge_dump();
+    make_calls(false);
+    make_calls(true);
     return 0;
 }

@@ -2,11 +2,11 @@
 //! without a warning, links, and gets the answers worked out by hand from the rules.
 
 use std::fs::File;
-use std::path::Path;
+use std::path::{Path, PathBuf};
 use std::process::Command;
 
 /// The lengths of the dump's areas, 3 x (24 + 16) and 3 x 96, and a number past them
-/// that stays 7; room for one only; a sheet too short. Its survey, with a number past the
+/// that stays 7; room for one only; a sheet one byte too short. Its survey, with a number past the
 /// rows and one past the chain; room for too few rows, for too little of the chain, and
 /// for either, but first a log of 15 bytes. The chain meets record 2 and then record 0,
 /// whose next word leads to no record, and then back to record 2, which names buffer 0.
@@ -28,12 +28,8 @@ survey 1 0 0\nrows 7 7 7 7 7 7 7 7 7 7\nchain 7 7 7 7
 
 /// The dump's findings; room for too few; the latest transactions of its buffers, of
 /// which the log has one row for the record of buffer 1, and of a buffer too many; room
-/// for too little; the report. Then the calls on a fresh image: three refused lay outs
-/// and one accepted; the buffers at 4096, 4120 and 4144 granted with 5 bytes and whole,
-/// after a size too large and before one too many; what was stored in the first and
-/// stands in the second; two wrong grants, and the first two given back, the second by
-/// a size that is not read and then again; the second granted anew; the third hurt.
-const REST: &str = "\
+/// for too little; the report. All this is the same in every form.
+const FOUND: &str = "\
 inspect 0 0 3\nrows 0 0 0 1 2 20 2 0 0 0
 inspect 11 0 0
 latest 0 0 2147483650
@@ -48,12 +44,23 @@ heap report 1
 2 free
 chain 2 end
 faults 0
+";
+
+/// The calls on a fresh image that is high-first: four refused lay outs, two of them by
+/// the sheet's length, and one accepted, with the field of its order; the buffers at
+/// 4096, 4120 and 4144 granted with 5 bytes and whole, after a size too large and before
+/// one too many; of the first, stamp 0x11 and thread 0x22; what was stored in the first
+/// and stands in the second; two wrong grants, and the first two given back, the second
+/// by a size that is not read and then again; the second granted anew, with its redzone
+/// words, 0xbb before the rest of 0xfeedface and 251 x 8 + 1; the third hurt.
+const HIGH: &str = "\
+lay out 1 0 0
 lay out 1 0 0
 lay out 2 0 0
 lay out 3 0 0
-lay out 0 0 0
+lay out 0 0 0\n 09 00 01 00
 allocate 6 0 0
-allocate 0 0 4096
+allocate 0 0 4096\n 00 00 00 00 00 00 00 11 00 00 00 22
 allocate 0 0 4120
 allocate 0 0 4144
 allocate 5 0 0
@@ -68,12 +75,40 @@ free 0 0 0
 free 0 0 0
 free 8 0 0
 store 8 0 0
-allocate 0 0 4120
+allocate 0 0 4120\n bb ed fa ce 00 00 07 d9
 show 7 28 0\n
 ";
 
-#[test]
-fn program_in_c() {
+/// The same, low-first: the stamp is one number of eight bytes, and the words of the fill
+/// and of the redzone are turned.
+const LOW: &str = "\
+lay out 1 0 0
+lay out 1 0 0
+lay out 2 0 0
+lay out 3 0 0
+lay out 0 0 0\n 09 00 01 01
+allocate 6 0 0
+allocate 0 0 4096\n 11 00 00 00 00 00 00 00 22 00 00 00
+allocate 0 0 4120
+allocate 0 0 4144
+allocate 5 0 0
+store 0 0 0
+store 10 0 0
+show 0 0 5\n fe 61 62 63 64
+show 0 0 8\n fe ca dd ba fe ca dd ba
+show 4 0 0\n
+free 9 0 0
+free 9 0 0
+free 0 0 0
+free 0 0 0
+free 8 0 0
+store 8 0 0
+allocate 0 0 4120\n bb fa ed fe d9 07 00 00
+show 7 28 0\n
+";
+
+/// The program, compiled with every warning an error.
+fn compiled() -> PathBuf {
     let package = Path::new(env!("CARGO_MANIFEST_DIR"));
     let repository = package.join("../..");
     let program = Path::new(env!("CARGO_TARGET_TMPDIR")).join("header");
@@ -94,15 +129,25 @@ fn program_in_c() {
         .status()
         .expect("a C compiler named cc");
     assert!(compiled.success());
+    program
+}
 
-    let image = File::open(repository.join("samples/dump.image")).expect("the stored dump");
-    let output = Command::new(&program)
-        .stdin(image)
-        .output()
-        .expect("the program starts");
-    assert!(output.status.success());
-    assert_eq!(
-        String::from_utf8_lossy(&output.stdout),
-        [DUMP, REST].concat()
-    );
+/// The dump's words say the same in the short form and low-first.
+#[test]
+fn program_in_c() {
+    let program = compiled();
+    let samples = Path::new(env!("CARGO_MANIFEST_DIR")).join("../../samples");
+    for name in ["dump.image", "dump_low.image"] {
+        let image = File::open(samples.join(name)).expect("the stored dump");
+        let output = Command::new(&program)
+            .stdin(image)
+            .output()
+            .expect("the program starts");
+        assert!(output.status.success(), "{name}");
+        assert_eq!(
+            String::from_utf8_lossy(&output.stdout),
+            [DUMP, FOUND, HIGH, LOW].concat(),
+            "{name}"
+        );
+    }
 }

@@ -1,5 +1,7 @@
-//! The verified report program and the reference's write the same, byte for byte.
+//! The verified report program and the reference's write the same, byte for byte, in
+//! every form of the sheet.
 
+use std::collections::BTreeMap;
 use std::fs;
 use std::io::Write;
 use std::path::{Path, PathBuf};
@@ -8,7 +10,7 @@ use std::thread;
 use std::time::{Duration, Instant};
 
 use differential::samples::dump;
-use differential::{put_word, Case};
+use differential::{put_sheet_word, Case, Form, FORMS};
 
 const CASES: u64 = 1_000;
 const SEED: u64 = 0x58f0_21b7;
@@ -91,85 +93,155 @@ fn compare_input(input: Vec<u8>, story: &str) -> String {
 #[test]
 fn stored_images() {
     let samples = repository().join("samples");
-    for name in ["dump", "corrupt"] {
+    for (name, expected) in [
+        ("dump", "dump"),
+        ("dump_low", "dump"),
+        ("corrupt", "corrupt"),
+    ] {
         let image = fs::read(samples.join(name).with_extension("image"));
-        let text = fs::read_to_string(samples.join(name).with_extension("expected"));
+        let text = fs::read_to_string(samples.join(expected).with_extension("expected"));
         let found = compare_input(image.expect("the stored image"), name);
         assert_eq!(found, text.expect("the stored report"), "{name}");
     }
 }
 
-/// The dump with a log of two rows, cut at every place: nothing, a part of the sheet,
-/// the sheet alone, a part of each area, and a part of a row.
+/// The dump's report, all 64 bytes.
+const DUMP_REPORT: &str = include_str!("../../../samples/dump.expected");
+
+/// The dump with a log of two rows, cut at every place: nothing, the length byte alone, a
+/// part of the sheet, the sheet alone, a part of each area, and a part of a row. "Input
+/// that ends early makes the sheet (1) or an area (3) wrong."
 #[test]
 fn dump_cut_at_every_place() {
-    let mut image = dump();
-    image.log = vec![1; 32];
-    let input = image.input();
-    for length in 0..=input.len() {
-        let story = format!("the first {length} bytes");
-        compare_input(input[..length].to_vec(), &story);
+    for form in FORMS {
+        let mut image = dump(form);
+        image.log = vec![1; 32];
+        let input = image.input();
+        let sheet_end = 1 + image.sheet.len();
+        let records_end = sheet_end + image.heap.len() + image.records.len();
+        for length in 0..=input.len() {
+            let story = format!("{form:?} dump, the first {length} bytes");
+            let found = compare_input(input[..length].to_vec(), &story);
+            let is_whole = length >= records_end && (length - records_end).is_multiple_of(16);
+            let expected = match length {
+                _ if length < sheet_end => "refused 1\n",
+                _ if is_whole => DUMP_REPORT,
+                _ => "refused 3\n",
+            };
+            assert_eq!(found, expected, "{story}");
+        }
+    }
+}
+
+/// Every length byte, before the dump in each form and with nothing behind it. Only two
+/// are a form's, and what follows them has to be that form.
+#[test]
+fn every_length_byte() {
+    for byte in 0..=255 {
+        let story = format!("length byte {byte} alone");
+        assert_eq!(compare_input(vec![byte], &story), "refused 1\n", "{story}");
+        for form in FORMS {
+            let mut input = dump(form).input();
+            input.resize(input.len() + 256, 0);
+            input[0] = byte;
+            let story = format!("length byte {byte}, {form:?} dump");
+            let found = compare_input(input, &story);
+            let is_its_own = usize::from(byte) == form.sheet_length();
+            match byte {
+                _ if is_its_own => assert_eq!(found, DUMP_REPORT, "{story}"),
+                // The ninth field is taken for the start of the heap.
+                48 => assert_eq!(found, "refused 3\n", "{story}"),
+                _ => assert_eq!(found, "refused 1\n", "{story}"),
+            }
+        }
     }
 }
 
 #[test]
 fn logs_of_every_kind_of_length() {
-    for length in [
-        0, 1, 15, 16, 17, 16_368, 16_383, 16_384, 16_385, 16_400, 40_000,
-    ] {
-        let mut image = dump();
-        image.log = vec![7; length];
-        compare_input(image.input(), &format!("a log of {length} bytes"));
+    for form in FORMS {
+        for length in [
+            0, 1, 15, 16, 17, 16_368, 16_383, 16_384, 16_385, 16_400, 40_000,
+        ] {
+            let mut image = dump(form);
+            image.log = vec![7; length];
+            let story = format!("{form:?} dump, a log of {length} bytes");
+            let found = compare_input(image.input(), &story);
+            let is_log = length.is_multiple_of(16) && length <= 16_384;
+            let expected = if is_log { DUMP_REPORT } else { "refused 3\n" };
+            assert_eq!(found, expected, "{story}");
+        }
     }
 }
 
 #[test]
 fn hurt_images() {
-    println!("programs, hurt images, seed {SEED:#x}");
+    let mut counts: BTreeMap<(String, Form), usize> = BTreeMap::new();
     for number in 0..CASES {
         let (case, _) = Case::new(SEED, number);
-        compare_input(case.image.input(), &case.to_string());
+        let text = compare_input(case.image.input(), &case.to_string());
+        let first_line = text.lines().next().expect("a line");
+        let met = (String::from(first_line), case.image.read_form());
+        *counts.entry(met).or_default() += 1;
+    }
+    println!("programs, hurt images, seed {SEED:#x}");
+    for ((line, form), count) in &counts {
+        println!("  {line}, {form:?}: {count}");
+    }
+    for line in ["heap report 1", "refused 1", "refused 2", "refused 3"] {
+        for form in FORMS {
+            let is_met = counts.contains_key(&(String::from(line), form));
+            assert!(is_met, "{line} was never met, {form:?}");
+        }
     }
 }
 
 /// A pipe hands over what it has, so a program must ask again for the rest.
 #[test]
 fn input_in_small_pieces() {
-    let mut image = dump();
-    image.log = vec![3; 48];
-    let input = image.input();
-    for length in [1, 3, 47, 100] {
-        let input = input.clone();
-        let feed = move |mut pipe: ChildStdin| {
-            for piece in input.chunks(length) {
-                let _ = pipe.write_all(piece);
-                thread::yield_now();
-            }
-        };
-        let text = compare(feed, &format!("pieces of {length} bytes"));
-        assert!(text.starts_with("heap report 1\n"), "{text}");
+    for form in FORMS {
+        let mut image = dump(form);
+        image.log = vec![3; 48];
+        let input = image.input();
+        for length in [1, 3, 47, 100] {
+            let input = input.clone();
+            let feed = move |mut pipe: ChildStdin| {
+                for piece in input.chunks(length) {
+                    let _ = pipe.write_all(piece);
+                    thread::yield_now();
+                }
+            };
+            let story = format!("{form:?} dump, pieces of {length} bytes");
+            assert_eq!(compare(feed, &story), DUMP_REPORT, "{story}");
+        }
     }
 }
 
-/// Input without end is not read to its end: after an unlawful sheet, in a sheet that
-/// is none, and in a log.
+/// Input without end is not read to its end: after a length that is no form's, in a sheet
+/// that is none, after an unlawful sheet, and in a log.
 #[test]
 fn endless_input() {
-    let mut unlawful = dump().sheet;
-    put_word(&mut unlawful, HEAP_BASE_BODY, 0);
-    let starts = [
-        (Vec::new(), "refused 1\n"),
-        (unlawful, "refused 2\n"),
-        (dump().sheet, "refused 3\n"),
-        (dump().input(), "refused 3\n"),
-    ];
-    for (start, expected) in starts {
-        let feed = move |mut pipe: ChildStdin| {
-            let mut is_open = pipe.write_all(&start).is_ok();
-            while is_open {
-                is_open = pipe.write_all(&[0; 4096]).is_ok();
-            }
-        };
-        assert_eq!(compare(feed, "endless input"), expected);
+    compare_endless(Vec::new(), "refused 1\n");
+    compare_endless(vec![255], "refused 1\n");
+    for form in FORMS {
+        let sheet_length = vec![form.sheet_length() as u8];
+        let sheet = dump(form).sheet;
+        let mut unlawful = sheet.clone();
+        put_sheet_word(&mut unlawful, HEAP_BASE_BODY, 0);
+        compare_endless(sheet_length.clone(), "refused 1\n");
+        compare_endless([&sheet_length[..], &unlawful].concat(), "refused 2\n");
+        compare_endless([&sheet_length[..], &sheet].concat(), "refused 3\n");
+        compare_endless(dump(form).input(), "refused 3\n");
     }
+}
+
+/// Zeros without end, behind such a start.
+fn compare_endless(start: Vec<u8>, expected: &str) {
+    let feed = move |mut pipe: ChildStdin| {
+        let mut is_open = pipe.write_all(&start).is_ok();
+        while is_open {
+            is_open = pipe.write_all(&[0; 4096]).is_ok();
+        }
+    };
+    assert_eq!(compare(feed, "endless input"), expected);
 }

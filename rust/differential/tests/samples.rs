@@ -1,30 +1,81 @@
-//! The stored images are the ones that `make_images` makes, and the stored texts are
-//! the reference's reports of them.
+//! The stored images are the ones that `make_images` and `store_images` make, and the
+//! stored texts are what the reference answers to them.
 
 use std::fs;
 use std::path::Path;
 
-use differential::samples::{corrupt, dump};
-use differential::Image;
-use reference::report_text;
+use differential::samples::stored_samples;
+use differential::stored;
+use reference::program;
 
+/// A file of the repository.
 fn stored(name: &str) -> Vec<u8> {
-    let samples = Path::new(env!("CARGO_MANIFEST_DIR")).join("../../samples");
-    fs::read(samples.join(name)).expect("a stored sample")
+    let repository = Path::new(env!("CARGO_MANIFEST_DIR")).join("../..");
+    fs::read(repository.join(name)).expect("a stored file")
 }
 
-fn text(image: &Image) -> String {
-    report_text(&image.sheet, &image.heap, &image.records, &image.log).expect("a report")
+fn sample(name: &str) -> Vec<u8> {
+    stored(&format!("samples/{name}"))
+}
+
+/// Bytes written in hexadecimal, with a comment behind each `#`.
+fn from_hex(text: &[u8]) -> Vec<u8> {
+    let text = String::from_utf8_lossy(text);
+    let code = text.lines().filter_map(|line| line.split('#').next());
+    let digits = code
+        .flat_map(str::chars)
+        .filter_map(|sign| sign.to_digit(16));
+    let digits: Vec<u8> = digits.map(|digit| digit as u8).collect();
+    let bytes = digits.chunks(2).map(|pair| pair[0] * 16 + pair[1]);
+    bytes.collect()
 }
 
 #[test]
-fn stored_dump() {
-    assert_eq!(stored("dump.image"), dump().input());
-    assert_eq!(stored("dump.expected"), text(&dump()).as_bytes());
+fn stored_images() {
+    for (name, image) in stored_samples() {
+        assert_eq!(sample(&format!("{name}.image")), image.input(), "{name}");
+    }
 }
 
+/// The low-first dump has the dump's report.
 #[test]
-fn stored_corrupt_buffer() {
-    assert_eq!(stored("corrupt.image"), corrupt().input());
-    assert_eq!(stored("corrupt.expected"), text(&corrupt()).as_bytes());
+fn reports_of_the_images() {
+    for (name, expected) in [
+        ("dump", "dump"),
+        ("dump_low", "dump"),
+        ("corrupt", "corrupt"),
+    ] {
+        let found = program(&sample(&format!("{name}.image")));
+        assert_eq!(found, sample(&format!("{expected}.expected")), "{name}");
+    }
+}
+
+/// So have the images in hexadecimal, each of them in both orders.
+#[test]
+fn reports_of_the_images_in_hexadecimal() {
+    let samples = [
+        ("one", "one"),
+        ("low", "low"),
+        ("low", "one"),
+        ("hurt", "hurt"),
+        ("hurt_low", "hurt"),
+    ];
+    for (name, expected) in samples {
+        let found = program(&from_hex(&sample(&format!("{name}.hex"))));
+        assert_eq!(found, sample(&format!("{expected}.expected")), "{name}");
+    }
+}
+
+/// What the program over stored images reads, and is held to.
+#[test]
+fn images_of_the_program_over_stored_images() {
+    assert_eq!(stored("crates/stored_images/stdin"), stored::input());
+    assert_eq!(stored("crates/stored_images/stdout"), stored::text());
+}
+
+/// What the report program reads and is held to where it is built: the dump.
+#[test]
+fn image_of_the_report_program() {
+    assert_eq!(stored("crates/heap_report/stdin"), sample("dump.image"));
+    assert_eq!(stored("crates/heap_report/stdout"), sample("dump.expected"));
 }

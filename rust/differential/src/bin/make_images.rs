@@ -5,14 +5,16 @@ use std::fs;
 use std::io::{Error, ErrorKind, Result};
 use std::path::Path;
 
-use differential::samples::{corrupt, dump};
+use differential::samples::stored_samples;
 
 fn main() -> Result<()> {
     let Some(folder) = env::args_os().nth(1) else {
-        let usage = "say the folder to write dump.image and corrupt.image into";
+        let usage = "say the folder to write the images into";
         return Err(Error::new(ErrorKind::InvalidInput, usage));
     };
     let folder = Path::new(&folder);
-    fs::write(folder.join("dump.image"), dump().input())?;
-    fs::write(folder.join("corrupt.image"), corrupt().input())
+    for (name, image) in stored_samples() {
+        fs::write(folder.join(name).with_extension("image"), image.input())?;
+    }
+    Ok(())
 }

@@ -1,6 +1,7 @@
 //! Hurts that know nothing of what they hit.
 
-use crate::image::{change_byte, put_word, ALLOCATED_TAG, FREE_TAG, SHEET_LENGTH};
+use crate::image::{full_r0, ALLOCATED_TAG, FREE_FILL, FREE_TAG, REDZONE};
+use crate::words::{change_byte, put_word};
 use crate::{Image, Sequence};
 
 /// One of the areas or the log, a small one as often as a large one.
@@ -24,7 +25,7 @@ pub fn flip(image: &mut Image, sequence: &mut Sequence) {
 
 /// Words that mean something elsewhere are put on words of the heap and the records.
 pub fn misplace_words(image: &mut Image, sequence: &mut Sequence) {
-    let shape = image.shape;
+    let (shape, order) = (image.shape, image.order());
     for _ in 0..sequence.between(1, 8) {
         let record = shape.record_address(sequence.below(shape.count));
         let buffer = shape.buffer_address(sequence.below(shape.count));
@@ -34,9 +35,9 @@ pub fn misplace_words(image: &mut Image, sequence: &mut Sequence) {
             record,
             buffer,
             code,
-            0xdead_beef,
-            0xfeed_face,
-            0xbbed_face,
+            FREE_FILL,
+            REDZONE,
+            full_r0(order),
             record ^ FREE_TAG,
             record ^ ALLOCATED_TAG,
         ]);
@@ -46,7 +47,23 @@ pub fn misplace_words(image: &mut Image, sequence: &mut Sequence) {
             &mut image.records
         };
         let at = 4 * sequence.below(area.len() / 4 + 1);
-        put_word(area, at, word);
+        put_word(order, area, at, word);
+    }
+}
+
+/// Words of the heap, the records or the log are turned: they stand as in the other
+/// order.
+pub fn turn_words(image: &mut Image, sequence: &mut Sequence) {
+    for _ in 0..sequence.between(1, 8) {
+        let area = match sequence.below(3) {
+            0 => &mut image.heap,
+            1 => &mut image.records,
+            _ => &mut image.log,
+        };
+        let at = 4 * sequence.below(area.len() / 4 + 1);
+        if let Some(word) = area.get_mut(at..at + 4) {
+            word.reverse();
+        }
     }
 }
 
@@ -74,16 +91,16 @@ fn randomize(area: &mut Vec<u8>, sequence: &mut Sequence) {
 
 /// "Input that ends early makes the sheet or an area wrong."
 fn cut(image: &mut Image, sequence: &mut Sequence) {
-    let mut input = image.input();
-    input.truncate(sequence.below(input.len() + 1));
-    image.sheet = split_off(&mut input, SHEET_LENGTH);
-    image.heap = split_off(&mut input, image.shape.heap_length());
-    image.records = split_off(&mut input, image.shape.record_length());
-    image.log = input;
+    let mut bytes = image.bytes();
+    bytes.truncate(sequence.below(bytes.len() + 1));
+    image.sheet = split_off(&mut bytes, image.form.sheet_length());
+    image.heap = split_off(&mut bytes, image.shape.heap_length());
+    image.records = split_off(&mut bytes, image.shape.record_length());
+    image.log = bytes;
 }
 
 /// Takes the first bytes, fewer where there are no more.
-fn split_off(input: &mut Vec<u8>, length: usize) -> Vec<u8> {
-    let rest = input.split_off(length.min(input.len()));
-    std::mem::replace(input, rest)
+fn split_off(bytes: &mut Vec<u8>, length: usize) -> Vec<u8> {
+    let rest = bytes.split_off(length.min(bytes.len()));
+    std::mem::replace(bytes, rest)
 }

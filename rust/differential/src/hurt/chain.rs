@@ -3,7 +3,7 @@
 use reference::chain;
 
 use super::no_record;
-use crate::image::{put_word, word, HEAD_BODY, NEXT, RECORD_SIZE};
+use crate::image::{NEXT, RECORD_SIZE};
 use crate::{Image, Sequence};
 
 /// The records met by the chain as it is, none for an image that is refused.
@@ -24,11 +24,11 @@ fn some_met(image: &Image, sequence: &mut Sequence) -> usize {
 }
 
 fn put_next(image: &mut Image, record: usize, next: u32) {
-    put_word(&mut image.records, record * RECORD_SIZE + NEXT, next);
+    image.put_record_word(record * RECORD_SIZE + NEXT, next);
 }
 
 fn next(image: &Image, record: usize) -> u32 {
-    word(&image.records, record * RECORD_SIZE + NEXT)
+    image.record_word(record * RECORD_SIZE + NEXT)
 }
 
 pub fn cut(image: &mut Image, sequence: &mut Sequence) {
@@ -53,7 +53,7 @@ pub fn miss_start(image: &mut Image, sequence: &mut Sequence) {
 /// Puts an address in a next word of the chain or in the head.
 fn lead_to(image: &mut Image, target: u32, sequence: &mut Sequence) {
     if sequence.once_in(3) {
-        put_word(&mut image.sheet, HEAD_BODY, target);
+        image.put_head(target);
     } else {
         let record = some_met(image, sequence);
         put_next(image, record, target);
@@ -76,14 +76,14 @@ pub fn loop_back(image: &mut Image, sequence: &mut Sequence) {
 }
 
 pub fn empty(image: &mut Image, _: &mut Sequence) {
-    put_word(&mut image.sheet, HEAD_BODY, 0);
+    image.put_head(0);
 }
 
 /// The chain starts at another record, allocated or free.
 pub fn change_head(image: &mut Image, sequence: &mut Sequence) {
     let record = sequence.below(image.shape.count);
     let address = image.shape.record_address(record);
-    put_word(&mut image.sheet, HEAD_BODY, address);
+    image.put_head(address);
 }
 
 /// A record is passed over: its predecessor, or the head, leads to its next.
@@ -95,7 +95,7 @@ pub fn leave_out(image: &mut Image, sequence: &mut Sequence) {
     let place = sequence.below(met.len());
     let after = next(image, met[place]);
     match place.checked_sub(1) {
-        None => put_word(&mut image.sheet, HEAD_BODY, after),
+        None => image.put_head(after),
         Some(before) => put_next(image, met[before], after),
     }
 }
@@ -113,8 +113,8 @@ pub fn add_allocated(image: &mut Image, sequence: &mut Sequence) {
     let address = image.shape.record_address(added);
     let after = match sequence.below(met.len() + 1).checked_sub(1) {
         None => {
-            let old_head = word(&image.sheet, HEAD_BODY);
-            put_word(&mut image.sheet, HEAD_BODY, address);
+            let old_head = image.head();
+            image.put_head(address);
             old_head
         }
         Some(place) => {

@@ -1,10 +1,8 @@
 //! Tags, fills, redzones, size codes and guard bytes.
 
-use crate::image::{change_byte, put_bytes, put_word, word, ALLOCATED_TAG, FREE_TAG};
+use crate::image::{full_r0, ALLOCATED_TAG, FREE_FILL, FREE_TAG, REDZONE};
+use crate::words::{change_byte, put_bytes, word_bytes};
 use crate::{Image, Sequence};
-
-const REDZONE: u32 = 0xfeed_face;
-const FREE_FILL: [u8; 4] = [0xde, 0xad, 0xbe, 0xef];
 
 fn some_buffer(image: &Image, sequence: &mut Sequence) -> usize {
     sequence.below(image.shape.count)
@@ -26,7 +24,7 @@ pub fn change_t0(image: &mut Image, sequence: &mut Sequence) {
     let other = image.shape.record_address(some_buffer(image, sequence));
     let any = sequence.word();
     let t0 = image.t0(some_buffer(image, sequence));
-    put_word(&mut image.heap, t0, sequence.pick(&[0, any, other]));
+    image.put_heap_word(t0, sequence.pick(&[0, any, other]));
 }
 
 /// Both tag words change, so that the xor stays a pattern.
@@ -36,32 +34,32 @@ pub fn tag_with_other_record(image: &mut Image, sequence: &mut Sequence) {
     let record = image.shape.record_address(some_buffer(image, sequence));
     let named = sequence.pick(&[record, record + 4, 0, image.shape.heap_base]);
     let (t0, t1) = (image.t0(buffer), image.t1(buffer));
-    put_word(&mut image.heap, t0, named);
-    put_word(&mut image.heap, t1, named ^ tag);
+    image.put_heap_word(t0, named);
+    image.put_heap_word(t1, named ^ tag);
 }
 
 /// One bit of T1 changes, or all of them.
 pub fn break_tag(image: &mut Image, sequence: &mut Sequence) {
     let t1 = image.t1(some_buffer(image, sequence));
     let bit = 1 << sequence.below(32);
-    let broken = word(&image.heap, t1) ^ sequence.pick(&[bit, u32::MAX]);
-    put_word(&mut image.heap, t1, broken);
+    let broken = image.heap_word(t1) ^ sequence.pick(&[bit, u32::MAX]);
+    image.put_heap_word(t1, broken);
 }
 
 /// An allocated buffer takes the free pattern, or a free one the allocated.
 pub fn exchange_pattern(image: &mut Image, sequence: &mut Sequence) {
     let t1 = image.t1(some_buffer(image, sequence));
-    let exchanged = word(&image.heap, t1) ^ ALLOCATED_TAG ^ FREE_TAG;
-    put_word(&mut image.heap, t1, exchanged);
+    let exchanged = image.heap_word(t1) ^ ALLOCATED_TAG ^ FREE_TAG;
+    image.put_heap_word(t1, exchanged);
 }
 
 /// The xor stays, and T0 is no record's address.
 pub fn exchange_tag_words(image: &mut Image, sequence: &mut Sequence) {
     let buffer = some_buffer(image, sequence);
     let (t0, t1) = (image.t0(buffer), image.t1(buffer));
-    let (first, second) = (word(&image.heap, t0), word(&image.heap, t1));
-    put_word(&mut image.heap, t0, second);
-    put_word(&mut image.heap, t1, first);
+    let (first, second) = (image.heap_word(t0), image.heap_word(t1));
+    image.put_heap_word(t0, second);
+    image.put_heap_word(t1, first);
 }
 
 pub fn change_fill(image: &mut Image, sequence: &mut Sequence) {
@@ -89,14 +87,17 @@ pub fn change_granted_redzone(image: &mut Image, sequence: &mut Sequence) {
     }
 }
 
-/// The code of the full size, with R0 as that grant leaves it and in other ways.
+/// The code of the full size, with R0 as that grant leaves it and in other ways, among
+/// them turned.
 pub fn grant_full_size(image: &mut Image, sequence: &mut Sequence) {
     let buffer = some_tagged(image, ALLOCATED_TAG, sequence);
     let bit = 1 << sequence.below(32);
-    let r0 = sequence.pick(&[0xbbed_face, 0xbbed_face, REDZONE, 0xbbed_face ^ bit]);
+    let full = full_r0(image.order());
+    let others = full.swap_bytes();
+    let r0 = sequence.pick(&[full, full, full, REDZONE, full ^ bit, others]);
     let (r0_at, r1_at) = (image.r0(buffer), image.r1(buffer));
-    put_word(&mut image.heap, r0_at, r0);
-    put_word(&mut image.heap, r1_at, 251 * image.shape.size as u32 + 1);
+    image.put_heap_word(r0_at, r0);
+    image.put_heap_word(r1_at, 251 * image.shape.size as u32 + 1);
 }
 
 /// R1 is a code of size 0, of a size too large, of a wrong remainder, of another size,
@@ -109,12 +110,12 @@ pub fn change_size_code(image: &mut Image, sequence: &mut Sequence) {
     let any = sequence.word();
     let r1 = sequence.pick(&[251 * coded + 1, wrong_remainder, 0, REDZONE, any]);
     let at = image.r1(some_tagged(image, ALLOCATED_TAG, sequence));
-    put_word(&mut image.heap, at, r1);
+    image.put_heap_word(at, r1);
 }
 
 /// The size that R1 codes, or the buffer size where it codes none.
 fn coded_size(image: &Image, buffer: usize) -> usize {
-    let size = word(&image.heap, image.r1(buffer)) as usize / 251;
+    let size = image.heap_word(image.r1(buffer)) as usize / 251;
     size.min(image.shape.size)
 }
 
@@ -128,7 +129,7 @@ pub fn change_guard(image: &mut Image, sequence: &mut Sequence) {
 pub fn store_fill(image: &mut Image, sequence: &mut Sequence) {
     let buffer = some_tagged(image, ALLOCATED_TAG, sequence);
     let start = image.buffer(buffer);
-    let fill = FREE_FILL.repeat(image.shape.size / 4);
+    let fill = word_bytes(image.order(), FREE_FILL).repeat(image.shape.size / 4);
     let length = coded_size(image, buffer);
     put_bytes(&mut image.heap, start, &fill[..length]);
 }

@@ -1,31 +1,30 @@
 //! The chain's first record and its buffer.
 
 use super::{no_buffer, no_record};
-use crate::image::{
-    change_byte, put_word, word, ADDRESS, ALLOCATED_TAG, FREE_TAG, HEAD_BODY, RECORD_SIZE,
-};
+use crate::image::{ADDRESS, ALLOCATED_TAG, FREE_TAG, RECORD_SIZE};
+use crate::words::change_byte;
 use crate::{Image, Sequence};
 
 /// The first record, if the head is one.
 fn first_record(image: &Image) -> Option<usize> {
-    image.shape.record_at(word(&image.sheet, HEAD_BODY))
+    image.shape.record_at(image.head())
 }
 
 /// The buffer that the first record names, if it names one.
 fn first_buffer(image: &Image) -> Option<usize> {
     let name = first_record(image)? * RECORD_SIZE + ADDRESS;
-    image.shape.buffer_at(word(&image.records, name))
+    image.shape.buffer_at(image.record_word(name))
 }
 
 pub fn leave_records(image: &mut Image, sequence: &mut Sequence) {
     let head = no_record(image.shape, sequence);
-    put_word(&mut image.sheet, HEAD_BODY, head);
+    image.put_head(head);
 }
 
 /// The first record names an address, if there is a first record.
 fn put_name(image: &mut Image, address: u32) {
     if let Some(record) = first_record(image) {
-        put_word(&mut image.records, record * RECORD_SIZE + ADDRESS, address);
+        image.put_record_word(record * RECORD_SIZE + ADDRESS, address);
     }
 }
 
@@ -43,8 +42,8 @@ pub fn name_other(image: &mut Image, sequence: &mut Sequence) {
 fn put_tag(image: &mut Image, own_record: u32, tag: u32) {
     if let Some(buffer) = first_buffer(image) {
         let (t0, t1) = (image.t0(buffer), image.t1(buffer));
-        put_word(&mut image.heap, t0, own_record);
-        put_word(&mut image.heap, t1, own_record ^ tag);
+        image.put_heap_word(t0, own_record);
+        image.put_heap_word(t1, own_record ^ tag);
     }
 }
 
@@ -53,7 +52,7 @@ fn other_record(image: &Image, sequence: &mut Sequence) -> u32 {
     let record = image
         .shape
         .record_address(sequence.below(image.shape.count));
-    let head = word(&image.sheet, HEAD_BODY);
+    let head = image.head();
     sequence.pick(&[record, record, head ^ 1, head ^ 0x8000_0000, 0])
 }
 
@@ -68,13 +67,13 @@ pub fn mark_others_allocated(image: &mut Image, sequence: &mut Sequence) {
 }
 
 pub fn mark_allocated(image: &mut Image, _: &mut Sequence) {
-    put_tag(image, word(&image.sheet, HEAD_BODY), ALLOCATED_TAG);
+    put_tag(image, image.head(), ALLOCATED_TAG);
 }
 
 /// One bit of the pattern changes.
 pub fn break_tag(image: &mut Image, sequence: &mut Sequence) {
     let tag = sequence.pick(&[FREE_TAG, ALLOCATED_TAG]) ^ 1 << sequence.below(32);
-    put_tag(image, word(&image.sheet, HEAD_BODY), tag);
+    put_tag(image, image.head(), tag);
 }
 
 pub fn change_fill(image: &mut Image, sequence: &mut Sequence) {

@@ -17,7 +17,7 @@ use crate::{Image, Sequence, Shape};
 pub type Hurt = (&'static str, fn(&mut Image, &mut Sequence));
 
 /// Every way there is.
-pub const HURTS: [Hurt; 42] = [
+pub const HURTS: [Hurt; 48] = [
     ("sheet: tag", sheet::change_tag),
     ("sheet: length of a field", sheet::change_field_length),
     ("sheet: fields out of order", sheet::exchange_fields),
@@ -29,6 +29,11 @@ pub const HURTS: [Hurt; 42] = [
     ("sheet: base", sheet::break_base),
     ("sheet: shared addresses", sheet::share_addresses),
     ("sheet: any cache address", sheet::change_cache),
+    ("sheet: field of the order", sheet::change_last_field),
+    ("sheet: no order", sheet::break_order),
+    ("sheet: other order", sheet::exchange_order),
+    ("sheet: 47 to 53 bytes", sheet::change_sheet_length),
+    ("sheet: other form", sheet::change_form),
     ("area length", areas::change_length),
     ("log length", areas::change_log_length),
     ("pairing: buffer named twice", pairing::name_twice),
@@ -62,6 +67,7 @@ pub const HURTS: [Hurt; 42] = [
     ("stamp: high half", times::widen_stamp),
     ("bytes flipped", bytes::flip),
     ("bytes of meaning misplaced", bytes::misplace_words),
+    ("words turned", bytes::turn_words),
     ("random or cut", bytes::replace),
 ];
 

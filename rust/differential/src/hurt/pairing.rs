@@ -1,7 +1,7 @@
 //! Records that do not each name a buffer of their own.
 
 use super::no_buffer;
-use crate::image::{put_word, word, ADDRESS, RECORD_SIZE};
+use crate::image::{ADDRESS, RECORD_SIZE};
 use crate::{Image, Sequence};
 
 /// Some record's address word, by its place in the record area.
@@ -12,10 +12,10 @@ fn some_name(image: &Image, sequence: &mut Sequence) -> usize {
 /// One record, or two, name what another names.
 pub fn name_twice(image: &mut Image, sequence: &mut Sequence) {
     let other = some_name(image, sequence);
-    let address = word(&image.records, other);
+    let address = image.record_word(other);
     for _ in 0..sequence.between(1, 2) {
         let name = some_name(image, sequence);
-        put_word(&mut image.records, name, address);
+        image.put_record_word(name, address);
     }
 }
 
@@ -23,14 +23,14 @@ pub fn name_twice(image: &mut Image, sequence: &mut Sequence) {
 pub fn name_nothing(image: &mut Image, sequence: &mut Sequence) {
     let address = no_buffer(image.shape, sequence);
     let name = some_name(image, sequence);
-    put_word(&mut image.records, name, address);
+    image.put_record_word(name, address);
 }
 
 /// Two records name each other's buffer, and the tags don't follow.
 pub fn exchange_names(image: &mut Image, sequence: &mut Sequence) {
     let one = some_name(image, sequence);
     let other = some_name(image, sequence);
-    let (address, other_address) = (word(&image.records, one), word(&image.records, other));
-    put_word(&mut image.records, one, other_address);
-    put_word(&mut image.records, other, address);
+    let (address, other_address) = (image.record_word(one), image.record_word(other));
+    image.put_record_word(one, other_address);
+    image.put_record_word(other, address);
 }

@@ -1,13 +1,17 @@
 //! Sheets of wrong tags and lengths, and numbers past each limit.
 
+use reference::{SHEET_LENGTH, SHORT_SHEET_LENGTH};
+
 use crate::image::{
-    change_byte, put_half, put_word, CACHE_BODY, CHUNK_SIZE_BODY, COUNT_BODY, FLAGS_BODY,
-    HEAP_BASE_BODY, RECORD_BASE_BODY, RECORD_SIZE, SIZE_BODY,
+    CACHE_BODY, CHUNK_SIZE_BODY, COUNT_BODY, FLAGS_BODY, HEAP_BASE_BODY, ORDER_BODY,
+    RECORD_BASE_BODY, RECORD_SIZE, SIZE_BODY,
 };
+use crate::words::{change_byte, put_bytes, put_sheet_half, put_sheet_word};
 use crate::{Image, Sequence};
 
-/// Where the tags stand; the length of a field is the two bytes after its tag.
-const TAGS: [usize; 8] = [0, 7, 14, 21, 26, 31, 36, 43];
+/// Where the tags stand; the length of a field is the two bytes after its tag. The short
+/// form has no ninth field.
+const TAGS: [usize; 9] = [0, 7, 14, 21, 26, 31, 36, 43, 48];
 
 /// The longest areas that are made to follow a count: more would only take time.
 const MOST_FOLLOWED: usize = 200_000;
@@ -30,6 +34,48 @@ pub fn exchange_fields(image: &mut Image, sequence: &mut Sequence) {
     }
 }
 
+/// The ninth field has another tag or another length; its body stays.
+pub fn change_last_field(image: &mut Image, sequence: &mut Sequence) {
+    let field = sequence.pick(&[
+        [0, 0, 1],
+        [8, 0, 1],
+        [10, 0, 1],
+        [9, 0, 0],
+        [9, 0, 2],
+        [9, 0, 4],
+        [9, 1, 0],
+        [9, 1, 1],
+    ]);
+    put_bytes(&mut image.sheet, SHORT_SHEET_LENGTH, &field);
+}
+
+/// The order is neither 0 nor 1.
+pub fn break_order(image: &mut Image, sequence: &mut Sequence) {
+    let any = sequence.between(2, 255) as u8;
+    let order = sequence.pick(&[any, any, 2, 3, 0x80, 0xff]);
+    put_bytes(&mut image.sheet, ORDER_BODY, &[order]);
+}
+
+/// The sheet says the other order, and no word follows it.
+pub fn exchange_order(image: &mut Image, _: &mut Sequence) {
+    change_byte(&mut image.sheet, ORDER_BODY, 1);
+}
+
+/// The sheet has 47 to 53 bytes, cut or with zeros behind it.
+pub fn change_sheet_length(image: &mut Image, sequence: &mut Sequence) {
+    let length = sequence.between(SHORT_SHEET_LENGTH - 1, SHEET_LENGTH + 1);
+    image.sheet.resize(length, 0);
+}
+
+/// The ninth field is cut off, or put behind the other eight with either order.
+pub fn change_form(image: &mut Image, sequence: &mut Sequence) {
+    image.sheet.truncate(SHORT_SHEET_LENGTH);
+    if !sequence.once_in(3) {
+        let order = sequence.below(2) as u8;
+        image.sheet.extend([9, 0, 1, order]);
+    }
+}
+
 /// The chunk size and the areas follow, so that the buffer size alone is unlawful. The
 /// last two need more than two bytes for their chunk size.
 pub fn break_size(image: &mut Image, sequence: &mut Sequence) {
@@ -41,7 +87,7 @@ pub fn break_chunk_size(image: &mut Image, sequence: &mut Sequence) {
     let lawful = image.shape.chunk_size() as u16;
     let any = sequence.word() as u16;
     let chunk_size = sequence.pick(&[lawful + 1, lawful - 1, lawful + 8, lawful - 16, 0, any]);
-    put_half(&mut image.sheet, CHUNK_SIZE_BODY, chunk_size);
+    put_sheet_half(&mut image.sheet, CHUNK_SIZE_BODY, chunk_size);
 }
 
 /// The areas follow, so that the count alone is unlawful.
@@ -61,7 +107,7 @@ pub fn break_flags(image: &mut Image, sequence: &mut Sequence) {
     let any = sequence.word() as u16;
     let bit = 1 << sequence.below(16);
     let flags = sequence.pick(&[0, 0x0f02, 0x020f ^ bit, any]);
-    put_half(&mut image.sheet, FLAGS_BODY, flags);
+    put_sheet_half(&mut image.sheet, FLAGS_BODY, flags);
 }
 
 /// A base that is 0, no multiple of 8, or too high for its area.
@@ -74,7 +120,7 @@ pub fn break_base(image: &mut Image, sequence: &mut Sequence) {
     let too_high = (length as u32).wrapping_neg() + 8;
     let unaligned = lawful + sequence.between(1, 7) as u32;
     let base = sequence.pick(&[0, unaligned, too_high, 0xffff_fff8]);
-    put_word(&mut image.sheet, body, base);
+    put_sheet_word(&mut image.sheet, body, base);
 }
 
 /// One range starts within the other, or on it, or takes its last or first bytes; or
@@ -97,12 +143,12 @@ pub fn share_addresses(image: &mut Image, sequence: &mut Sequence) {
         other_base.wrapping_sub(length - 8),
         other_base.wrapping_sub(length),
     ]);
-    put_word(&mut image.sheet, body, base);
+    put_sheet_word(&mut image.sheet, body, base);
 }
 
 /// "Cache address and chain head may be any number."
 pub fn change_cache(image: &mut Image, sequence: &mut Sequence) {
-    put_word(&mut image.sheet, CACHE_BODY, sequence.word());
+    put_sheet_word(&mut image.sheet, CACHE_BODY, sequence.word());
 }
 
 /// Writes a size, its chunk size and a count, low bases that are apart, and gives the
@@ -110,11 +156,11 @@ pub fn change_cache(image: &mut Image, sequence: &mut Sequence) {
 fn put_sizes(image: &mut Image, size: u16, count: u16) {
     let heap_length = usize::from(count) * (usize::from(size) + 16);
     let record_length = usize::from(count) * RECORD_SIZE;
-    put_half(&mut image.sheet, SIZE_BODY, size);
-    put_half(&mut image.sheet, CHUNK_SIZE_BODY, size.wrapping_add(16));
-    put_half(&mut image.sheet, COUNT_BODY, count);
-    put_word(&mut image.sheet, HEAP_BASE_BODY, 0x1000_0000);
-    put_word(&mut image.sheet, RECORD_BASE_BODY, 0x2000_0000);
+    put_sheet_half(&mut image.sheet, SIZE_BODY, size);
+    put_sheet_half(&mut image.sheet, CHUNK_SIZE_BODY, size.wrapping_add(16));
+    put_sheet_half(&mut image.sheet, COUNT_BODY, count);
+    put_sheet_word(&mut image.sheet, HEAP_BASE_BODY, 0x1000_0000);
+    put_sheet_word(&mut image.sheet, RECORD_BASE_BODY, 0x2000_0000);
     image.heap.resize(heap_length.min(MOST_FOLLOWED), 0);
     image.records.resize(record_length.min(MOST_FOLLOWED), 0);
 }

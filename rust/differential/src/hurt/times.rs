@@ -1,10 +1,11 @@
 //! Stamps that a 32-bit uptime can't be compared with.
 
-use crate::image::{put_word, RECORD_SIZE, STAMP_HIGH};
+use crate::image::{stamp_high, RECORD_SIZE};
 use crate::{Image, Sequence};
 
 /// One record's stamp, or every one, gets a non-zero high half.
 pub fn widen_stamp(image: &mut Image, sequence: &mut Sequence) {
+    let half = stamp_high(image.order());
     let count = image.shape.count;
     let bit = 1 << sequence.below(32);
     let record = sequence.below(count);
@@ -14,6 +15,6 @@ pub fn widen_stamp(image: &mut Image, sequence: &mut Sequence) {
         0..count
     };
     for record in wide {
-        put_word(&mut image.records, record * RECORD_SIZE + STAMP_HIGH, bit);
+        image.put_record_word(record * RECORD_SIZE + half, bit);
     }
 }

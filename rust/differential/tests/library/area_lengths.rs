@@ -5,7 +5,7 @@ use std::fmt::Display;
 
 use combgallop::{area_lengths, area_lengths_answer, AreaLengths};
 use differential::samples::dump;
-use differential::{Case, Image, Sequence};
+use differential::{Case, Form, Image, Sequence, FORMS};
 use reference::Refusal;
 
 use crate::counts::{Counts, Met, EXTREMES};
@@ -22,7 +22,7 @@ const REFUSALS: [Met; 3] = [Met::Refusal(1, 0), Met::Refusal(2, 0), Met::Refusal
 
 /// Asks for the lengths with room for so many numbers, by the library in both forms,
 /// and answers whether it was to be refused.
-fn compare(
+pub fn compare(
     sheet: &[u8],
     room: usize,
     sequence: &mut Sequence,
@@ -55,13 +55,14 @@ fn compare(
     expected
 }
 
-fn note(counts: &mut Counts, image: &Image, found: Result<(), Refusal>) {
+pub fn note(counts: &mut Counts, image: &Image, found: Result<(), Refusal>) {
+    let form = image.read_form();
     match found {
         Ok(()) => {
-            counts.note(ACCEPTED);
+            counts.note(form, ACCEPTED);
             counts.note_extremes(image);
         }
-        Err(refusal) => counts.note_refusal(refusal),
+        Err(refusal) => counts.note_refusal(form, refusal),
     }
 }
 
@@ -83,18 +84,24 @@ fn hurt_images() {
 fn neighbours_of_the_dump() {
     let mut sequence = Sequence::new(SEED);
     let mut counts = Counts::default();
-    let mut image = dump();
+    for form in FORMS {
+        compare_neighbours(form, &mut sequence, &mut counts);
+    }
+    let wanted = [&[ACCEPTED], &REFUSALS[..]].concat();
+    counts.finish("area lengths, neighbours of the dump", SEED, &wanted);
+}
+
+fn compare_neighbours(form: Form, sequence: &mut Sequence, counts: &mut Counts) {
+    let mut image = dump(form);
     for at in 0..image.sheet.len() {
         let stood = image.sheet[at];
         for value in 0..=255 {
             image.sheet[at] = value;
             for room in 0..4 {
-                let found = compare(&image.sheet, room, &mut sequence, &image);
-                note(&mut counts, &image, found);
+                let found = compare(&image.sheet, room, sequence, &image);
+                note(counts, &image, found);
             }
         }
         image.sheet[at] = stood;
     }
-    let wanted = [&[ACCEPTED], &REFUSALS[..]].concat();
-    counts.finish("area lengths, neighbours of the dump", SEED, &wanted);
 }

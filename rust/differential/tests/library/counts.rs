@@ -1,9 +1,9 @@
-//! What a run met, so that no rule goes untested unnoticed.
+//! What a run met, in each form of the sheet, so that no rule goes untested unnoticed.
 
 use std::collections::BTreeMap;
 use std::fmt::{Display, Formatter, Result};
 
-use differential::Image;
+use differential::{Form, Image, FORMS};
 use reference::Ending;
 
 /// A thing that a run can meet.
@@ -93,16 +93,17 @@ impl Display for Met {
     }
 }
 
+/// How often each thing was met, by the form of the sheet at hand.
 #[derive(Default)]
-pub struct Counts(BTreeMap<Met, usize>);
+pub struct Counts(BTreeMap<(Met, Form), usize>);
 
 impl Counts {
-    pub fn note(&mut self, met: Met) {
-        *self.0.entry(met).or_default() += 1;
+    pub fn note(&mut self, form: Form, met: Met) {
+        *self.0.entry((met, form)).or_default() += 1;
     }
 
-    pub fn note_refusal(&mut self, refusal: reference::Refusal) {
-        self.note(Met::Refusal(refusal.number, refusal.detail));
+    pub fn note_refusal(&mut self, form: Form, refusal: reference::Refusal) {
+        self.note(form, Met::Refusal(refusal.number, refusal.detail));
     }
 
     /// Notes the numbers of an image that are at an end of what is lawful.
@@ -113,18 +114,31 @@ impl Counts {
             Met::Extreme("heap area", image.heap.len()),
         ];
         for number in numbers.iter().filter(|number| EXTREMES.contains(number)) {
-            self.note(*number);
+            self.note(image.read_form(), *number);
         }
     }
 
-    /// Prints the counts, and fails where a thing that can be met was not.
+    /// Prints the counts, and fails where a thing that can be met in every form was not.
     pub fn finish(&self, title: &str, seed: u64, wanted: &[Met]) {
+        self.finish_in(&FORMS, title, seed, wanted);
+    }
+
+    /// The same for things that can be met in these forms.
+    pub fn finish_in(&self, forms: &[Form], title: &str, seed: u64, wanted: &[Met]) {
         println!("{title}, seed {seed:#x}");
-        for (met, count) in &self.0 {
-            println!("  {met}: {count}");
+        for ((met, form), count) in &self.0 {
+            println!("  {met}, {form:?}: {count}");
         }
-        for met in wanted {
-            assert!(self.0.contains_key(met), "{title}: {met} was never met");
+        self.want(forms, title, wanted);
+    }
+
+    /// Fails where a thing that can be met in these forms was not.
+    pub fn want(&self, forms: &[Form], title: &str, wanted: &[Met]) {
+        for &met in wanted {
+            for &form in forms {
+                let is_met = self.0.contains_key(&(met, form));
+                assert!(is_met, "{title}: {met} was never met, {form:?}");
+            }
         }
     }
 }

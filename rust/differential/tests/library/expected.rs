@@ -1,12 +1,20 @@
 //! What the library must say where the reference says this, in the library's types.
 
-use combgallop::{Answer, Fault, Finding, Refusal, Verdict};
+use combgallop::{Answer, Fault, Finding, Order, Refusal, Verdict};
 
 /// Refusal 11, "output shorter than the exact need".
 pub const SHORT_OUTPUT: reference::Refusal = reference::Refusal {
     number: 11,
     detail: 0,
 };
+
+/// An order, as the library's type names it.
+pub fn expected_order(order: reference::Order) -> Order {
+    match order {
+        reference::Order::HighFirst => Order::HighFirst,
+        reference::Order::LowFirst => Order::LowFirst,
+    }
+}
 
 /// All 64 bits of an answer.
 pub fn expected_answer(value: Result<u32, reference::Refusal>) -> Answer {

@@ -6,7 +6,7 @@ use std::fmt::Display;
 use combgallop::{inspect, inspect_answer};
 use differential::hurt::HURTS;
 use differential::neighbours::{each_neighbour, each_small_size_code};
-use differential::{sound_image, Case, Image, Sequence, Shape};
+use differential::{sound_image, Case, Image, Sequence, Shape, FORMS};
 use reference::{chain, Finding, Refusal, Verdict};
 
 use crate::counts::{Counts, Met, ENDINGS, EXTREMES, READ_REFUSALS, VERDICTS};
@@ -18,7 +18,7 @@ const SEED: u64 = 0x1d5b_ec71;
 
 /// Inspects an image with room for so many numbers, by both, and answers what the
 /// reference finds.
-fn compare(
+pub fn compare(
     image: &Image,
     room: usize,
     sequence: &mut Sequence,
@@ -52,17 +52,18 @@ fn compare(
     expected.map(|_| findings)
 }
 
-fn note(counts: &mut Counts, image: &Image, found: Result<Vec<Finding>, Refusal>) {
+pub fn note(counts: &mut Counts, image: &Image, found: Result<Vec<Finding>, Refusal>) {
+    let form = image.read_form();
     let findings = match found {
         Ok(findings) => findings,
-        Err(refusal) => return counts.note_refusal(refusal),
+        Err(refusal) => return counts.note_refusal(form, refusal),
     };
     for finding in findings {
-        counts.note(Met::Verdict(finding.verdict.number()));
+        counts.note(form, Met::Verdict(finding.verdict.number()));
     }
     let walked = chain(&image.sheet, &image.heap, &image.records);
     let ending = walked.expect("an image inspected has a chain").ending;
-    counts.note(Met::chain(ending));
+    counts.note(form, Met::chain(ending));
     counts.note_extremes(image);
 }
 
@@ -75,7 +76,7 @@ fn hurt_images() {
         let found = compare(&case.image, room, &mut sequence, &case);
         note(&mut counts, &case.image, found);
         for name in case.hurts {
-            counts.note(Met::Hurt(name));
+            counts.note(case.image.form, Met::Hurt(name));
         }
     }
     let hurts: Vec<Met> = HURTS.iter().map(|&(name, _)| Met::Hurt(name)).collect();
@@ -147,9 +148,11 @@ fn every_byte_of_a_free_chunk() {
             size,
             count: 3,
         };
-        let mut image = Image::laid_out(shape, [0; 5]);
-        for offset in 0..size + 8 {
-            compare_hurts(&mut image, offset, &mut sequence, &mut counts);
+        for form in FORMS {
+            let mut image = Image::laid_out(form, shape, [0; 5]);
+            for offset in 0..size + 8 {
+                compare_hurts(&mut image, offset, &mut sequence, &mut counts);
+            }
         }
     }
     let wanted = [&FILL_PLACES[..], &[Met::Verdict(25), Met::Verdict(26)]].concat();
@@ -175,7 +178,7 @@ fn compare_hurts(image: &mut Image, offset: usize, sequence: &mut Sequence, coun
         note(counts, image, Ok(found));
     }
     image.heap = sound;
-    counts.note(place_of(offset, size));
+    counts.note(image.form, place_of(offset, size));
 }
 
 fn place_of(offset: usize, size: usize) -> Met {

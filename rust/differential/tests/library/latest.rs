@@ -30,7 +30,7 @@ const WANTED: [Met; 11] = [
 ];
 
 /// Asks both for the latest transaction, and answers what the reference says.
-fn compare(
+pub fn compare(
     image: &Image,
     index: u32,
     now: u32,
@@ -62,14 +62,15 @@ fn compare(
     expected
 }
 
-fn note(counts: &mut Counts, image: &Image, found: Result<Latest, Refusal>) {
+pub fn note(counts: &mut Counts, image: &Image, found: Result<Latest, Refusal>) {
+    let form = image.read_form();
     match found {
         Ok(found) => {
             for choice in choices_met(image, found) {
-                counts.note(Met::Latest(choice));
+                counts.note(form, Met::Latest(choice));
             }
         }
-        Err(refusal) => counts.note_refusal(refusal),
+        Err(refusal) => counts.note_refusal(form, refusal),
     }
 }
 

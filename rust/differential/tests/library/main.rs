@@ -5,6 +5,7 @@ mod area_lengths;
 mod calls;
 mod counts;
 mod expected;
+mod forms;
 mod inspect;
 mod latest;
 mod lent;

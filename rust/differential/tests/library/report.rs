@@ -4,7 +4,7 @@ use std::fmt::Display;
 
 use combgallop::{report, report_answer};
 use differential::samples::dump;
-use differential::{Case, Image, Sequence};
+use differential::{Case, Image, Sequence, FORMS};
 use reference::{chain, Refusal};
 
 use crate::counts::{Counts, Met, ENDINGS, READ_REFUSALS, VERDICTS};
@@ -16,7 +16,7 @@ const SEED: u64 = 0x3c84_a90d;
 
 /// Asks both for the report with so many bytes of room, and answers the reference's
 /// text.
-fn compare(
+pub fn compare(
     image: &Image,
     room: usize,
     sequence: &mut Sequence,
@@ -70,17 +70,18 @@ fn told_verdict(line: &str) -> Option<u32> {
     }
 }
 
-fn note(counts: &mut Counts, image: &Image, found: Result<String, Refusal>) {
+pub fn note(counts: &mut Counts, image: &Image, found: Result<String, Refusal>) {
+    let form = image.read_form();
     let text = match found {
         Ok(text) => text,
-        Err(refusal) => return counts.note_refusal(refusal),
+        Err(refusal) => return counts.note_refusal(form, refusal),
     };
     for verdict in text.lines().filter_map(told_verdict) {
-        counts.note(Met::Verdict(verdict));
+        counts.note(form, Met::Verdict(verdict));
     }
     let walked = chain(&image.sheet, &image.heap, &image.records);
     let ending = walked.expect("an image reported has a chain").ending;
-    counts.note(Met::chain(ending));
+    counts.note(form, Met::chain(ending));
 }
 
 #[test]
@@ -101,11 +102,12 @@ fn hurt_images() {
 fn every_room() {
     let mut sequence = Sequence::new(SEED);
     let mut counts = Counts::default();
-    let image = dump();
-    for room in 0..200 {
-        let found = compare(&image, room, &mut sequence, &image);
-        assert_eq!(found.is_ok(), room >= 64, "room {room}");
-        note(&mut counts, &image, found);
+    for image in FORMS.map(dump) {
+        for room in 0..200 {
+            let found = compare(&image, room, &mut sequence, &image);
+            assert_eq!(found.is_ok(), room >= 64, "room {room}");
+            note(&mut counts, &image, found);
+        }
     }
     counts.finish("report, every room", SEED, &[Met::Refusal(11, 0)]);
 }

@@ -5,7 +5,7 @@ use std::fmt::Display;
 
 use combgallop::{survey, survey_answer};
 use differential::samples::dump;
-use differential::{put_word, Case, Image, Sequence};
+use differential::{Case, Form, Image, Sequence, FORMS};
 use reference::{Chain, Ending, Finding, Refusal};
 
 use crate::counts::{Counts, Met, ENDINGS, EXTREMES, READ_REFUSALS, VERDICTS};
@@ -22,19 +22,17 @@ const ROWS_SHORT: Met = Met::Drawn("room for the rows alone too short");
 const CHAIN_SHORT: Met = Met::Drawn("room for the chain alone too short");
 const LOG_WRONG: Met = Met::Drawn("length of the log alone wrong");
 
-/// Where the chain's words stand: in the sheet, and in each record.
-const HEAD_BODY: usize = 39;
 const RECORD_SIZE: usize = 96;
 
 /// How many numbers are lent for the rows and for the chain.
 #[derive(Clone, Copy, Debug)]
-struct Room {
-    rows: usize,
-    chain: usize,
+pub struct Room {
+    pub rows: usize,
+    pub chain: usize,
 }
 
 /// What has to be found of an image.
-struct Found {
+pub struct Found {
     findings: Vec<Finding>,
     chain: Chain,
 }
@@ -78,7 +76,7 @@ fn expected_chain(chain: &Chain) -> combgallop::Chain {
 
 /// Surveys an image with so much room, by the library in both forms, and answers what
 /// has to be found.
-fn compare(
+pub fn compare(
     image: &Image,
     room: Room,
     sequence: &mut Sequence,
@@ -150,28 +148,30 @@ fn compare_answer(
     expected
 }
 
-fn note(counts: &mut Counts, image: &Image, room: Room, found: Result<Found, Refusal>) {
+pub fn note(counts: &mut Counts, image: &Image, room: Room, found: Result<Found, Refusal>) {
+    let form = image.read_form();
     let found = match found {
         Ok(found) => found,
         Err(refusal) => return note_refusal(counts, image, room, refusal),
     };
     for finding in found.findings {
-        counts.note(Met::Verdict(finding.verdict.number()));
+        counts.note(form, Met::Verdict(finding.verdict.number()));
     }
-    counts.note(Met::chain(found.chain.ending));
+    counts.note(form, Met::chain(found.chain.ending));
     counts.note_extremes(image);
 }
 
 /// Notes a refusal, and its cause where the number alone does not say.
 fn note_refusal(counts: &mut Counts, image: &Image, room: Room, refusal: Refusal) {
-    counts.note_refusal(refusal);
+    let form = image.read_form();
+    counts.note_refusal(form, refusal);
     let (sheet, heap, records) = (&image.sheet, &image.heap, &image.records);
     let mut findings = vec![Finding::default(); room.rows / 3];
     let rows_suffice = reference::inspect(sheet, heap, records, &mut findings).is_ok();
     match refusal.number {
-        3 if reference::chain(sheet, heap, records).is_ok() => counts.note(LOG_WRONG),
-        11 if rows_suffice => counts.note(CHAIN_SHORT),
-        11 if room.chain >= 3 => counts.note(ROWS_SHORT),
+        3 if reference::chain(sheet, heap, records).is_ok() => counts.note(form, LOG_WRONG),
+        11 if rows_suffice => counts.note(form, CHAIN_SHORT),
+        11 if room.chain >= 3 => counts.note(form, ROWS_SHORT),
         _ => {}
     }
 }
@@ -198,9 +198,8 @@ fn hurt_images() {
 fn every_room() {
     let mut sequence = Sequence::new(SEED);
     let mut counts = Counts::default();
-    let image = dump();
-    for rows in 0..13 {
-        for chain in 0..6 {
+    for image in FORMS.map(dump) {
+        for (rows, chain) in (0..13).flat_map(|rows| (0..6).map(move |chain| (rows, chain))) {
             let room = Room { rows, chain };
             let found = compare(&image, room, &mut sequence, &image);
             assert_eq!(found.is_ok(), rows >= 9 && chain >= 3, "{room:?}");
@@ -217,19 +216,25 @@ fn every_room() {
 fn every_chain() {
     let mut sequence = Sequence::new(SEED);
     let mut counts = Counts::default();
-    let mut image = dump();
+    for form in FORMS {
+        compare_chains(form, &mut sequence, &mut counts);
+    }
+    counts.finish("survey, every chain of three records", SEED, &ENDINGS);
+}
+
+fn compare_chains(form: Form, sequence: &mut Sequence, counts: &mut Counts) {
+    let mut image = dump(form);
     let [first, second, third] = [0, 1, 2].map(|record| image.shape.record_address(record));
     let targets = [0, first, second, third, second + 4];
     let room = Room { rows: 9, chain: 3 };
     for choice in 0..5 * 5 * 5 * 5 {
         let target = |place: u32| targets[choice / 5usize.pow(place) % 5];
-        put_word(&mut image.sheet, HEAD_BODY, target(3));
+        image.put_head(target(3));
         for record in 0..3 {
             let next = RECORD_SIZE * record as usize;
-            put_word(&mut image.records, next, target(record));
+            image.put_record_word(next, target(record));
         }
-        let found = compare(&image, room, &mut sequence, &image);
-        note(&mut counts, &image, room, found);
+        let found = compare(&image, room, sequence, &image);
+        note(counts, &image, room, found);
     }
-    counts.finish("survey, every chain of three records", SEED, &ENDINGS);
 }

@@ -2,12 +2,15 @@
 
 use combgallop::{Answer, Grant, Refusal};
 use differential::{Image, Shape};
+use reference::Order;
 
+use crate::expected::expected_order;
 use crate::lent::Lent;
 
 /// The arguments of a lay out, lawful or not.
 #[derive(Clone, Copy, Debug)]
 pub struct Numbers {
+    pub order: Order,
     pub cache: u32,
     pub heap_base: u32,
     pub record_base: u32,
@@ -15,9 +18,10 @@ pub struct Numbers {
     pub count: u32,
 }
 
-impl From<Shape> for Numbers {
-    fn from(shape: Shape) -> Numbers {
+impl Numbers {
+    pub fn new(order: Order, shape: Shape) -> Numbers {
         Numbers {
+            order,
             cache: shape.cache,
             heap_base: shape.heap_base,
             record_base: shape.record_base,
@@ -87,6 +91,7 @@ impl Call {
         let (sheet, heap, records) = (&mut image.sheet, &mut image.heap, &mut image.records);
         match *self {
             Call::LayOut(numbers) => reference::lay_out(
+                numbers.order,
                 numbers.cache,
                 numbers.heap_base,
                 numbers.record_base,
@@ -127,6 +132,7 @@ impl Call {
         let (sheet, heap, records) = lent.areas();
         match *self {
             Call::LayOut(numbers) => combgallop::lay_out_answer(
+                expected_order(numbers.order),
                 numbers.cache,
                 numbers.heap_base,
                 numbers.record_base,
@@ -159,6 +165,7 @@ impl Call {
         let (sheet, heap, records) = lent.areas();
         match *self {
             Call::LayOut(numbers) => combgallop::lay_out(
+                expected_order(numbers.order),
                 numbers.cache,
                 numbers.heap_base,
                 numbers.record_base,

@@ -1,7 +1,8 @@
 //! Calls that an image accepts, and ones that it refuses for every reason there is.
 
 use combgallop::Grant;
-use differential::{move_areas, word, Image, Sequence};
+use differential::{move_areas, word_bytes, Image, Sequence};
+use reference::Order;
 
 use super::call::{Call, Numbers};
 
@@ -78,7 +79,7 @@ fn some_free(image: &Image, sequence: &mut Sequence) -> Call {
 
 /// The grant that a buffer's second redzone word tells, as well as it can be told.
 fn granted(image: &Image, buffer: usize) -> Grant {
-    match word(&image.heap, image.r1(buffer)) {
+    match image.heap_word(image.r1(buffer)) {
         REDZONE => Grant::Whole,
         code => Grant::Sized(code / 251),
     }
@@ -127,7 +128,7 @@ fn some_store(image: &Image, sequence: &mut Sequence) -> Call {
     Call::Store {
         address: near_buffer(image, buffer, sequence),
         offset,
-        bytes: some_bytes(length, sequence),
+        bytes: some_bytes(image.order(), length, sequence),
     }
 }
 
@@ -154,20 +155,24 @@ fn some_run(client: usize, chunk_size: usize, sequence: &mut Sequence) -> (u32, 
 }
 
 /// Any bytes, or bytes that mean something in a chunk.
-fn some_bytes(length: usize, sequence: &mut Sequence) -> Vec<u8> {
+fn some_bytes(order: Order, length: usize, sequence: &mut Sequence) -> Vec<u8> {
     let marks = [0xdead_beef, 0xbadd_cafe, REDZONE, 0xbbbb_bbbbu32];
     if sequence.once_in(2) {
         return sequence.bytes(length);
     }
-    let mark = sequence.pick(&marks).to_be_bytes();
+    let mark = word_bytes(order, sequence.pick(&marks));
     mark.into_iter().cycle().take(length).collect()
 }
 
-/// A lay out for areas of an image's lengths: lawful, with other bases, or with one
-/// number that is not.
+pub fn some_order(sequence: &mut Sequence) -> Order {
+    sequence.pick(&[Order::HighFirst, Order::LowFirst])
+}
+
+/// A lay out for areas of an image's lengths, in either order: lawful, with other bases,
+/// or with one number that is not.
 pub fn some_lay_out(image: &Image, sequence: &mut Sequence) -> Call {
     let moved = move_areas(image.shape, sequence);
-    let mut numbers = Numbers::from(moved);
+    let mut numbers = Numbers::new(some_order(sequence), moved);
     numbers.cache = sequence.word();
     if !sequence.once_in(2) {
         spoil(&mut numbers, sequence);

@@ -1,8 +1,9 @@
 //! Calls on the dump: on every neighbour of it, and with every small number.
 
 use combgallop::Grant;
+use differential::neighbours::each_small_size_code;
 use differential::samples::dump;
-use differential::{put_word, Image, Sequence};
+use differential::{Form, Image, Sequence, FORMS};
 
 use super::answers;
 use super::call::Call;
@@ -19,15 +20,14 @@ const BUFFER: u32 = 0x70a9_ae00;
 const STEP: u32 = 40;
 
 /// The dump with its allocated buffer granted in some way.
-fn dump_granted(grant: Grant) -> Image {
-    let mut image = dump();
-    let (r0, r1) = (image.r0(1), image.r1(1));
-    put_word(&mut image.heap, r0, REDZONE);
-    put_word(&mut image.heap, r1, REDZONE);
+fn dump_granted(form: Form, grant: Grant) -> Image {
+    let mut image = dump(form);
+    image.put_heap_word(image.r0(1), REDZONE);
+    image.put_heap_word(image.r1(1), REDZONE);
     if let Grant::Sized(size) = grant {
         let guard = image.buffer(1) + size as usize;
         image.heap[guard] = 0xbb;
-        put_word(&mut image.heap, r1, 251 * size + 1);
+        image.put_heap_word(image.r1(1), 251 * size + 1);
     }
     image
 }
@@ -112,20 +112,9 @@ const NOT_NEAR: [Met; 5] = [
 fn calls_on_neighbours_of_the_dump() {
     let mut sequence = Sequence::new(SEED);
     let mut counts = Counts::default();
-    for grant in [Grant::Sized(20), Grant::Whole, Grant::Sized(SIZE)] {
-        let mut image = dump_granted(grant);
-        let calls = some_of_each(grant);
-        let lengths = [image.sheet.len(), image.heap.len(), image.records.len()];
-        for (area, length) in lengths.into_iter().enumerate() {
-            for at in 0..length {
-                let stood = *image.byte_mut(area, at);
-                for value in 0..=255 {
-                    *image.byte_mut(area, at) = value;
-                    let origin = format!("dump, {grant:?}, area {area}, {value:#x} at {at}");
-                    run_all(&image, &calls, &origin, &mut counts, &mut sequence);
-                }
-                *image.byte_mut(area, at) = stood;
-            }
+    for form in FORMS {
+        for grant in [Grant::Sized(20), Grant::Whole, Grant::Sized(SIZE)] {
+            run_on_neighbours(form, grant, &mut counts, &mut sequence);
         }
     }
     let all = ["allocate", "free", "store", "show"].map(answers).concat();
@@ -136,22 +125,41 @@ fn calls_on_neighbours_of_the_dump() {
     counts.finish("calls, neighbours of the dump", SEED, &wanted);
 }
 
+fn run_on_neighbours(form: Form, grant: Grant, counts: &mut Counts, sequence: &mut Sequence) {
+    let mut image = dump_granted(form, grant);
+    let calls = some_of_each(grant);
+    let lengths = [image.sheet.len(), image.heap.len(), image.records.len()];
+    for (area, length) in lengths.into_iter().enumerate() {
+        for at in 0..length {
+            let stood = *image.byte_mut(area, at);
+            for value in 0..=255 {
+                *image.byte_mut(area, at) = value;
+                let origin = format!("{form:?} dump, {grant:?}, area {area}, {value:#x} at {at}");
+                run_all(&image, &calls, &origin, counts, sequence);
+            }
+            *image.byte_mut(area, at) = stood;
+        }
+    }
+}
+
 /// Every grant asked for, and every grant given back for it.
 #[test]
 fn every_pair_of_grants() {
     let mut sequence = Sequence::new(SEED);
     let mut counts = Counts::default();
-    for granted in every_grant() {
-        for freed in every_grant() {
-            let as_granted = Grant::Sized(20);
-            let calls = [
-                free(as_granted),
-                allocate(granted),
-                show(BUFFER),
-                free(freed),
-            ];
-            let origin = format!("dump, {granted:?}, then {freed:?}");
-            run_all(&dump(), &calls, &origin, &mut counts, &mut sequence);
+    for image in FORMS.map(dump) {
+        for granted in every_grant() {
+            for freed in every_grant() {
+                let as_granted = Grant::Sized(20);
+                let calls = [
+                    free(as_granted),
+                    allocate(granted),
+                    show(BUFFER),
+                    free(freed),
+                ];
+                let origin = format!("{:?} dump, {granted:?}, then {freed:?}", image.form);
+                run_all(&image, &calls, &origin, &mut counts, &mut sequence);
+            }
         }
     }
     let wanted = [
@@ -167,46 +175,41 @@ fn every_pair_of_grants() {
 fn every_small_store() {
     let mut sequence = Sequence::new(SEED);
     let mut counts = Counts::default();
-    let offsets: Vec<u32> = (0..STEP + 2).chain(u32::MAX - STEP..=u32::MAX).collect();
-    for size in 0..=SIZE {
-        let grant = match size {
-            0 => Grant::Whole,
-            size => Grant::Sized(size),
-        };
-        let image = dump_granted(grant);
-        for &offset in &offsets {
-            let calls: Vec<Call> = (0..=STEP as usize + 1)
-                .map(|length| store(offset, length))
-                .collect();
-            let origin = format!("dump, {grant:?}");
-            run_all(&image, &calls, &origin, &mut counts, &mut sequence);
+    for form in FORMS {
+        for size in 0..=SIZE {
+            let grant = match size {
+                0 => Grant::Whole,
+                size => Grant::Sized(size),
+            };
+            run_small_stores(form, grant, &mut counts, &mut sequence);
         }
     }
     let wanted = [Met::Accepted("store"), Met::Refused("store", 10, 0)];
     counts.finish("calls, every small store", SEED, &wanted);
 }
 
-/// Every small R1 of the allocated buffer, past the code of its buffer size, with R0 of
-/// either grant and with the guard byte everywhere or nowhere.
+fn run_small_stores(form: Form, grant: Grant, counts: &mut Counts, sequence: &mut Sequence) {
+    let image = dump_granted(form, grant);
+    for offset in (0..STEP + 2).chain(u32::MAX - STEP..=u32::MAX) {
+        let calls: Vec<Call> = (0..=STEP as usize + 1)
+            .map(|length| store(offset, length))
+            .collect();
+        let origin = format!("{form:?} dump, {grant:?}");
+        run_all(&image, &calls, &origin, counts, sequence);
+    }
+}
+
 #[test]
 fn calls_on_every_small_size_code() {
     let mut sequence = Sequence::new(SEED);
     let mut counts = Counts::default();
-    let mut image = dump();
-    let (r0_at, r1_at) = (image.r0(1), image.r1(1));
-    for fill in [0xbb, 0xba] {
-        image.heap[40..64].fill(fill);
-        for r0 in [0xfeed_face, 0xbbed_face] {
-            put_word(&mut image.heap, r0_at, r0);
-            for r1 in 0..7_000 {
-                put_word(&mut image.heap, r1_at, r1);
-                let grant = Grant::Sized(r1 / 251);
-                let calls = [show(BUFFER), store(0, 1), free(grant)];
-                let origin = format!("dump, R0 {r0:#x}, R1 {r1:#x}, {fill:#x} before them");
-                run_all(&image, &calls, &origin, &mut counts, &mut sequence);
-            }
-        }
-    }
+    each_small_size_code(|image| {
+        let [r0, r1] = [image.r0(1), image.r1(1)].map(|at| image.heap_word(at));
+        let calls = [show(BUFFER), store(0, 1), free(Grant::Sized(r1 / 251))];
+        let fill = image.heap[image.buffer(1)];
+        let origin = format!("dump, R0 {r0:#x}, R1 {r1:#x}, {fill:#x} before them");
+        run_all(image, &calls, &origin, &mut counts, &mut sequence);
+    });
     let wanted = [
         Met::Accepted("free"),
         Met::Refused("free", 7, 27),

@@ -1,7 +1,7 @@
 //! Calls on hurt images, and lists with damage between the calls.
 
 use differential::hurt::{HEAD_HURTS, HURTS};
-use differential::{Case, Sequence};
+use differential::{Case, Sequence, LONG_FORMS};
 
 use super::answers;
 use super::draw::{some_call, some_lay_out};
@@ -22,12 +22,12 @@ fn run(case: &Case, counts: &mut Counts, sequence: &mut Sequence) {
             0 => {
                 let hurt = sequence.pick(&HURTS);
                 twin.hurt(hurt, sequence);
-                counts.note(Met::Hurt(hurt.0));
+                counts.note(twin.image.form, Met::Hurt(hurt.0));
             }
             1..=3 => {
                 let hurt = sequence.pick(&HEAD_HURTS);
                 twin.hurt(hurt, sequence);
-                counts.note(Met::Hurt(hurt.0));
+                counts.note(twin.image.form, Met::Hurt(hurt.0));
             }
             _ => {}
         }
@@ -50,8 +50,9 @@ fn calls_on_hurt_images() {
     }
     let hurts = HURTS.iter().chain(&HEAD_HURTS);
     let hurts: Vec<Met> = hurts.map(|&(name, _)| Met::Hurt(name)).collect();
-    let calls = ["lay out", "allocate", "free", "store", "show"];
-    let answers = calls.map(answers).concat();
-    let wanted = [answers, hurts].concat();
-    counts.finish("calls, hurt images", SEED, &wanted);
+    let calls = ["allocate", "free", "store", "show"];
+    let wanted = [calls.map(answers).concat(), hurts].concat();
+    let title = "calls, hurt images";
+    counts.finish(title, SEED, &wanted);
+    counts.want(&LONG_FORMS, title, &answers("lay out"));
 }

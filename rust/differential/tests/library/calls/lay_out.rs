@@ -1,10 +1,11 @@
 //! Lay out, with arguments at and past every limit and areas of any length.
 
-use differential::{some_shape, Image, Sequence, Shape};
+use differential::{some_shape, Form, Image, Sequence, Shape, LONG_FORMS};
+use reference::{Order, SHEET_LENGTH};
 
 use super::answers;
 use super::call::{Call, Numbers};
-use super::draw::any_bytes;
+use super::draw::{any_bytes, some_order};
 use super::twin::Twin;
 use crate::counts::{Counts, Met, EXTREMES};
 
@@ -24,10 +25,10 @@ struct Draft {
 }
 
 impl Draft {
-    fn lawful(shape: Shape) -> Draft {
+    fn lawful(order: Order, shape: Shape) -> Draft {
         Draft {
-            numbers: Numbers::from(shape),
-            sheet_length: 48,
+            numbers: Numbers::new(order, shape),
+            sheet_length: SHEET_LENGTH,
             heap_length: shape.heap_length(),
             record_length: shape.record_length(),
         }
@@ -69,8 +70,9 @@ const CHANGES: [Change; 11] = [
     ("any numbers", take_any),
 ];
 
+/// The short form's length is refused here too.
 fn change_sheet_length(draft: &mut Draft, sequence: &mut Sequence) {
-    draft.sheet_length = sequence.pick(&[0, 1, 24, 47, 49, 96, 48 + 256]);
+    draft.sheet_length = sequence.pick(&[0, 1, 24, 47, 48, 48, 49, 50, 51, 53, 104, 52 + 256]);
 }
 
 fn other_length(length: usize, sequence: &mut Sequence) -> usize {
@@ -213,6 +215,7 @@ fn share_addresses(draft: &mut Draft, sequence: &mut Sequence) {
 
 fn take_any(draft: &mut Draft, sequence: &mut Sequence) {
     draft.numbers = Numbers {
+        order: draft.numbers.order,
         cache: sequence.word(),
         heap_base: sequence.word(),
         record_base: sequence.word(),
@@ -223,11 +226,12 @@ fn take_any(draft: &mut Draft, sequence: &mut Sequence) {
 
 /// Changes a lawful draft in no way, one way or two.
 fn some_draft(counts: &mut Counts, sequence: &mut Sequence) -> Draft {
-    let mut draft = Draft::lawful(some_shape(sequence));
+    let order = some_order(sequence);
+    let mut draft = Draft::lawful(order, some_shape(sequence));
     for _ in 0..sequence.pick(&[0, 1, 1, 1, 2]) {
         let (name, way) = sequence.pick(&CHANGES);
         way(&mut draft, sequence);
-        counts.note(Met::Drawn(name));
+        counts.note(Form::laid_out(order), Met::Drawn(name));
     }
     draft
 }
@@ -235,6 +239,7 @@ fn some_draft(counts: &mut Counts, sequence: &mut Sequence) -> Draft {
 /// Areas of a draft's lengths, full of anything.
 fn areas(draft: &Draft, sequence: &mut Sequence) -> Image {
     Image {
+        form: Form::laid_out(draft.numbers.order),
         shape: draft.numbers.into(),
         times: [0; 5],
         sheet: any_bytes(draft.sheet_length, sequence),
@@ -260,5 +265,5 @@ fn lay_outs_of_every_kind() {
     }
     let changes: Vec<Met> = CHANGES.iter().map(|&(name, _)| Met::Drawn(name)).collect();
     let wanted = [&answers("lay out")[..], &EXTREMES, &changes].concat();
-    counts.finish("calls, lay outs", SEED, &wanted);
+    counts.finish_in(&LONG_FORMS, "calls, lay outs", SEED, &wanted);
 }

@@ -5,6 +5,7 @@ use std::collections::BTreeMap;
 use std::fmt::Display;
 
 use combgallop::{Finding, Grant, Refusal, Verdict};
+use differential::word_bytes;
 use reference::Ending;
 
 use super::call::{Call, Numbers};
@@ -151,13 +152,14 @@ impl Ledger {
     }
 
     /// "Its client bytes are s bytes, or the whole buffer, as the grant's fill, the
-    /// uninitialised pattern, leaves them."
+    /// uninitialised pattern, leaves them." Its bytes stand in the order laid out (W5).
     fn granted(&self, grant: Grant) -> Out {
         let length = match grant {
             Grant::Whole => self.numbers.size,
             Grant::Sized(size) => size,
         };
-        let fill = [0xba, 0xdd, 0xca, 0xfe].into_iter().cycle();
+        let fill = word_bytes(self.numbers.order, 0xbadd_cafe);
+        let fill = fill.into_iter().cycle();
         Out {
             grant,
             bytes: fill.take(length as usize).collect(),

@@ -2,10 +2,11 @@
 
 use std::fmt::{Display, Formatter, Result as Written};
 
-use differential::{some_shape, Image, Sequence, Shape};
+use differential::{some_shape, Form, Image, Sequence, Shape, LONG_FORMS};
+use reference::SHEET_LENGTH;
 
 use super::call::{Call, Numbers};
-use super::draw::{any_bytes, some_call, some_lay_out};
+use super::draw::{any_bytes, some_call, some_lay_out, some_order};
 use super::ledger::Ledger;
 use super::twin::Twin;
 use crate::counts::{Counts, Met, EXTREMES};
@@ -13,11 +14,16 @@ use crate::counts::{Counts, Met, EXTREMES};
 const LISTS: u64 = 5_000;
 const SEED: u64 = 0x6b19_f4d2;
 
-/// The answers that a list without damage can get.
-const WANTED: [Met; 17] = [
+/// The answers that a lay out in a list can get; 1 where the sheet is short.
+const LAY_OUTS: [Met; 4] = [
     Met::Accepted("lay out"),
+    Met::Refused("lay out", 1, 0),
     Met::Refused("lay out", 2, 0),
     Met::Refused("lay out", 3, 0),
+];
+
+/// The answers that the other calls of a list without damage can get.
+const WANTED: [Met; 14] = [
     Met::Accepted("allocate"),
     Met::Refused("allocate", 6, 0),
     Met::Refused("allocate", 5, 0),
@@ -44,22 +50,24 @@ const LENGTHS: [Met; 3] = [
 /// One list of a seed, by its number.
 struct List {
     number: u64,
-    shape: Shape,
+    numbers: Numbers,
 }
 
 impl Display for List {
     fn fmt(&self, out: &mut Formatter) -> Written {
-        let List { number, shape } = self;
-        write!(out, "seed {SEED:#x} list {number}: {shape:x?}")
+        let List { number, numbers } = self;
+        write!(out, "seed {SEED:#x} list {number}: {numbers:x?}")
     }
 }
 
 /// Areas that hold anything, before they are laid out.
-fn any_areas(shape: Shape, sequence: &mut Sequence) -> Image {
+fn any_areas(numbers: Numbers, sequence: &mut Sequence) -> Image {
+    let shape = Shape::from(numbers);
     Image {
+        form: Form::laid_out(numbers.order),
         shape,
         times: [sequence.word(); 5],
-        sheet: any_bytes(48, sequence),
+        sheet: any_bytes(SHEET_LENGTH, sequence),
         heap: any_bytes(shape.heap_length(), sequence),
         records: any_bytes(shape.record_length(), sequence),
         log: Vec::new(),
@@ -76,16 +84,20 @@ fn some_length(shape: Shape, sequence: &mut Sequence) -> usize {
 }
 
 /// Runs one list. The wish to allocate changes within it, so that a heap is filled and
-/// emptied; now and then it is laid out again.
+/// emptied; now and then it is laid out again. Some high-first heaps are used through the
+/// short form of their sheet.
 fn run(number: u64, counts: &mut Counts) {
     let mut sequence = Sequence::new(Sequence::new(SEED).number() ^ number);
     let shape = some_shape(&mut sequence);
-    let list = List { number, shape };
-    let mut twin = Twin::new(any_areas(shape, &mut sequence), &list, &mut sequence);
-    let first = Call::LayOut(Numbers::from(shape));
-    let answer = twin.run(&first, counts, &mut sequence);
+    let numbers = Numbers::new(some_order(&mut sequence), shape);
+    let list = List { number, numbers };
+    let mut twin = Twin::new(any_areas(numbers, &mut sequence), &list, &mut sequence);
+    let answer = twin.run(&Call::LayOut(numbers), counts, &mut sequence);
     assert_eq!(answer, Ok(0), "a lawful lay out: {}", twin.story);
-    let mut ledger = Ledger::open(Numbers::from(shape));
+    let mut ledger = Ledger::open(numbers);
+    if twin.image.form == Form::High && sequence.once_in(2) {
+        twin.shorten(&mut sequence);
+    }
 
     let length = some_length(shape, &mut sequence);
     let mut eagerness = 12;
@@ -109,15 +121,13 @@ fn run(number: u64, counts: &mut Counts) {
 }
 
 fn note_list(twin: &Twin, ledger: &Ledger, length: usize, counts: &mut Counts) {
+    let form = twin.image.form;
     counts.note_extremes(&twin.image);
-    if length == 0 {
-        counts.note(Met::Drawn("empty list"));
-    }
-    if length >= 100 {
-        counts.note(Met::Drawn("list of 100 calls and more"));
-    }
-    if ledger.is_full() {
-        counts.note(Met::Drawn("list that ends with every buffer out"));
+    let are_met = [length == 0, length >= 100, ledger.is_full()];
+    for (met, is_met) in LENGTHS.into_iter().zip(are_met) {
+        if is_met {
+            counts.note(form, met);
+        }
     }
 }
 
@@ -128,5 +138,7 @@ fn every_list_is_as_its_ledger() {
         run(number, &mut counts);
     }
     let wanted = [&WANTED[..], &LENGTHS, &EXTREMES].concat();
-    counts.finish("calls, lists on fresh heaps", SEED, &wanted);
+    let title = "calls, lists on fresh heaps";
+    counts.finish(title, SEED, &wanted);
+    counts.want(&LONG_FORMS, title, &LAY_OUTS);
 }

@@ -12,6 +12,9 @@ mod twin;
 
 use crate::counts::Met;
 
+pub use call::{Call, Numbers};
+pub use twin::Twin;
+
 /// The refusals that every call can give, by the rules, with their details.
 const OPENING: [(u8, u8); 3] = [(1, 0), (2, 0), (3, 0)];
 

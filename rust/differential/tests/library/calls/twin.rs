@@ -4,7 +4,8 @@ use std::fmt::{Display, Formatter, Result as Written};
 
 use combgallop::Refusal;
 use differential::hurt::Hurt;
-use differential::{Image, Sequence};
+use differential::{Form, Image, Sequence};
+use reference::SHORT_SHEET_LENGTH;
 
 use super::call::Call;
 use crate::counts::{Counts, Met};
@@ -14,6 +15,7 @@ use crate::lent::{Guarded, Lent};
 enum Step {
     Call(Call),
     Hurt(&'static str),
+    Shorten,
 }
 
 /// Where an image comes from, and all that was done to it since.
@@ -29,6 +31,7 @@ impl Display for Story<'_> {
             match step {
                 Step::Call(call) => writeln!(out, "{number}: {call:x?}")?,
                 Step::Hurt(name) => writeln!(out, "{number}: hurt, {name}")?,
+                Step::Shorten => writeln!(out, "{number}: sheet cut to the short form")?,
             }
         }
         Ok(())
@@ -62,6 +65,15 @@ impl<'a> Twin<'a> {
         self.story.steps.push(Step::Hurt(name));
     }
 
+    /// Cuts the sheet of a high-first image to the short form, which means the same.
+    pub fn shorten(&mut self, sequence: &mut Sequence) {
+        assert_eq!(self.image.form, Form::High);
+        self.image.sheet.truncate(SHORT_SHEET_LENGTH);
+        self.image.form = Form::Short;
+        self.lent = Lent::new(&self.image, sequence);
+        self.story.steps.push(Step::Shorten);
+    }
+
     /// Makes a call by both, compares what they answer and every byte, and answers what
     /// the library did.
     pub fn run(
@@ -86,15 +98,29 @@ impl<'a> Twin<'a> {
         assert!(bytes.holds(call.bytes()), "bytes differ: {}", self.story);
         self.lent.assert_holds(&self.image, &self.story);
         match *call {
-            Call::LayOut(numbers) if outcome.is_ok() => self.image.shape = numbers.into(),
+            Call::LayOut(numbers) if outcome.is_ok() => {
+                self.image.shape = numbers.into();
+                self.image.form = Form::laid_out(numbers.order);
+            }
             Call::Show { address } => self.compare_parts(address),
             _ => {}
         }
-        counts.note(match outcome {
+        self.note(call, outcome, counts);
+        outcome
+    }
+
+    /// Notes an outcome: that of a lay out under the form asked for, and any other under
+    /// the form of the sheet.
+    fn note(&self, call: &Call, outcome: Result<u32, Refusal>, counts: &mut Counts) {
+        let form = match call {
+            Call::LayOut(numbers) => Form::laid_out(numbers.order),
+            _ => self.image.read_form(),
+        };
+        let met = match outcome {
             Ok(_) => Met::Accepted(call.name()),
             Err(refusal) => Met::Refused(call.name(), refusal.number(), refusal.detail()),
-        });
-        outcome
+        };
+        counts.note(form, met);
     }
 
     /// Both show the same part of the heap, or none.
