@@ -2,9 +2,9 @@
 
 use std::hint::black_box;
 
-use differential::{Image, Shape};
+use bench::images::{all_free, shape, LARGEST};
+use differential::{Form, Image, Shape};
 
-use crate::images::{all_free, shape, LARGEST};
 use crate::requirement::Requirement;
 use crate::table::{print_sides, SIDES_HEAD};
 use crate::timing::race;
@@ -34,8 +34,8 @@ pub fn time_calls() -> Requirement {
 /// An allocate and the free of the same buffer, after which the chain is as before.
 fn time_pairs(size: usize, requirement: &mut Requirement) {
     let grant = size as u32 - 4;
-    let [mut one, mut second_one] = [(); 2].map(|()| all_free(size, 1));
-    let [mut many, mut second_many] = [(); 2].map(|()| all_free(size, 512));
+    let [mut one, mut second_one] = [(); 2].map(|()| all_free(Form::High, size, 1));
+    let [mut many, mut second_many] = [(); 2].map(|()| all_free(Form::High, size, 512));
     check_pair(size, grant);
     let [at_one, second_at_one, at_many, second_at_many] = race([
         Box::new(|| pair_by_library(&mut one, grant)),
@@ -51,7 +51,7 @@ fn time_pairs(size: usize, requirement: &mut Requirement) {
 
 /// Both sides leave the same areas.
 fn check_pair(size: usize, grant: u32) {
-    let [mut image, mut second] = [(); 2].map(|()| all_free(size, 512));
+    let [mut image, mut second] = [(); 2].map(|()| all_free(Form::High, size, 512));
     pair_by_library(&mut image, grant);
     pair_by_second(&mut second, grant);
     assert_eq!(image.input(), second.input(), "allocate and free of {size}");
@@ -84,7 +84,8 @@ fn pair_by_second(image: &mut Image, grant: u32) {
 }
 
 fn time_lay_out(shape: Shape) {
-    let [mut image, mut second_image] = [(); 2].map(|()| all_free(shape.size, shape.count));
+    let [mut image, mut second_image] =
+        [(); 2].map(|()| all_free(Form::High, shape.size, shape.count));
     lay_out_by_library(&mut image);
     assert_eq!(image.input(), second_image.input(), "lay out of {shape:?}");
     let [rattle, second] = race([
@@ -98,6 +99,7 @@ fn time_lay_out(shape: Shape) {
 fn lay_out_by_library(image: &mut Image) {
     let shape = image.shape;
     combgallop::lay_out(
+        combgallop::Order::HighFirst,
         shape.cache,
         shape.heap_base,
         shape.record_base,
@@ -113,6 +115,7 @@ fn lay_out_by_library(image: &mut Image) {
 fn lay_out_by_second(image: &mut Image) {
     let shape = image.shape;
     reference::lay_out(
+        reference::Order::HighFirst,
         shape.cache,
         shape.heap_base,
         shape.record_base,
@@ -127,7 +130,7 @@ fn lay_out_by_second(image: &mut Image) {
 
 /// A whole buffer is stored to and shown.
 fn time_store_and_show(size: usize, count: usize) {
-    let mut image = all_free(size, count);
+    let mut image = all_free(Form::High, size, count);
     let whole = combgallop::Grant::Whole;
     let Image {
         sheet,

@@ -1,14 +1,15 @@
 //! How inspect grows with the count of buffers.
 
-use crate::images::{all_free, chained_far, half_allocated};
+use bench::images::{all_free, chained_far, half_allocated, Make};
+use differential::Form;
+
 use crate::reader::inspect_by_library;
 use crate::requirement::Requirement;
 use crate::timing::race;
-use differential::Image;
 
 /// A size, a count, and how the images are made; they have once, twice and four times
 /// the count.
-type Series = (&'static str, usize, usize, fn(usize, usize) -> Image);
+type Series = (&'static str, usize, usize, Make);
 
 const SERIES: [Series; 6] = [
     ("all free", 4096, 3, all_free),
@@ -25,7 +26,7 @@ pub fn time_growth() -> Requirement {
     println!("| images | n | at n | at 2n | at 4n | 2n to n | 4n to n |");
     println!("|---|--:|--:|--:|--:|--:|--:|");
     for (kind, size, count, make) in SERIES {
-        let images = [1, 2, 4].map(|times| make(size, times * count));
+        let images = [1, 2, 4].map(|times| make(Form::High, size, times * count));
         let mut rows = images
             .each_ref()
             .map(|image| vec![0; 3 * image.shape.count]);

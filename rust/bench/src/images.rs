@@ -1,12 +1,29 @@
 //! The images that are timed.
 
 use differential::hurt::{Hurt, HURTS};
-use differential::{Image, Sequence, Shape};
-use reference::{allocate, free, Grant};
+use differential::{word_bytes, Form, Image, Sequence, Shape};
+use reference::{allocate, free, Grant, Order};
+
+use crate::turn::low_first;
 
 /// The sizes and counts of the largest images: the longest buffers, the most buffers,
 /// and the most buffers with the largest heap area there may be, 65,536 bytes.
 pub const LARGEST: [(usize, usize); 3] = [(4096, 15), (24, 512), (112, 512)];
+
+/// How an image of a form is made, with buffers of a size and a count of them.
+pub type Make = fn(Form, usize, usize) -> Image;
+
+/// A way to make an image, and whether every buffer of it is free, so that all of its
+/// buffers' bytes are compared with the free fill.
+pub type Kind = (&'static str, Make, bool);
+
+pub const KINDS: [Kind; 5] = [
+    ("all free", all_free, true),
+    ("half allocated", half_allocated, false),
+    ("hurt", hurt, false),
+    ("all free, chain reversed", chained_back, true),
+    ("all free, chain in long jumps", chained_far, true),
+];
 
 /// Any number does; the hurts follow from it.
 const SEED: u64 = 1;
@@ -29,13 +46,13 @@ pub fn shape(size: usize, count: usize) -> Shape {
 }
 
 /// Every buffer is free, and the chain goes through the records in order.
-pub fn all_free(size: usize, count: usize) -> Image {
-    Image::laid_out(shape(size, count), [0; 5])
+pub fn all_free(form: Form, size: usize, count: usize) -> Image {
+    Image::laid_out(form, shape(size, count), [0; 5])
 }
 
 /// Every second buffer is out.
-pub fn half_allocated(size: usize, count: usize) -> Image {
-    let mut image = all_allocated(size, count);
+pub fn half_allocated(form: Form, size: usize, count: usize) -> Image {
+    let mut image = all_allocated(form, size, count);
     for buffer in (0..count).step_by(2) {
         take_back(&mut image, buffer);
     }
@@ -43,30 +60,39 @@ pub fn half_allocated(size: usize, count: usize) -> Image {
 }
 
 /// Every buffer is free, and the chain starts at the last record and goes back.
-pub fn chained_back(size: usize, count: usize) -> Image {
+pub fn chained_back(form: Form, size: usize, count: usize) -> Image {
     let order: Vec<usize> = (0..count).rev().collect();
-    chained(size, count, &order)
+    chained(form, size, count, &order)
 }
 
 /// Every buffer is free, and each link of the chain goes about half the records away.
-pub fn chained_far(size: usize, count: usize) -> Image {
+pub fn chained_far(form: Form, size: usize, count: usize) -> Image {
     let order: Vec<usize> = (0..count).map(|i| i * (count / 2 + 1) % count).collect();
-    chained(size, count, &order)
+    chained(form, size, count, &order)
 }
 
 /// Every buffer is free, and the chain goes through the records in this order, which
 /// is the order of their buffers' frees from the last to the first.
-fn chained(size: usize, count: usize, order: &[usize]) -> Image {
-    let mut image = all_allocated(size, count);
+fn chained(form: Form, size: usize, count: usize, order: &[usize]) -> Image {
+    let mut image = all_allocated(form, size, count);
     for &buffer in order.iter().rev() {
         take_back(&mut image, buffer);
     }
     image
 }
 
-/// Half of the buffers are out, and there are as many hurts as buffers.
-pub fn hurt(size: usize, count: usize) -> Image {
-    let mut image = half_allocated(size, count);
+/// Half of the buffers are out, and there are as many hurts as buffers. Some hurts follow
+/// from what they find, and would not be the same in both orders: the image with the low
+/// byte first is turned from the other.
+pub fn hurt(form: Form, size: usize, count: usize) -> Image {
+    match form {
+        Form::Short | Form::High => hurt_high_first(form, size, count),
+        Form::Low => low_first(hurt_high_first(Form::High, size, count)),
+    }
+}
+
+fn hurt_high_first(form: Form, size: usize, count: usize) -> Image {
+    let mut image = half_allocated(form, size, count);
     let mut sequence = Sequence::new(SEED);
     let ways: Vec<Hurt> = HURTS
         .into_iter()
@@ -84,8 +110,8 @@ pub const MOST_ROWS: u32 = 1024;
 
 /// An image of the most buffers with the longest log, all of whose rows are of the last
 /// buffer, each younger than the one before, or of the first; and what it is called.
-pub fn logged() -> [(&'static str, Image); 2] {
-    let image = all_free(112, 512);
+pub fn logged(form: Form) -> [(&'static str, Image); 2] {
+    let image = all_free(form, 112, 512);
     let last_record = image.shape.record_address(image.shape.count - 1);
     let first_record = image.shape.record_address(0);
     [
@@ -93,7 +119,7 @@ pub fn logged() -> [(&'static str, Image); 2] {
         ("no row of the buffer's", first_record),
     ]
     .map(|(kind, named)| {
-        let log = (1..=MOST_ROWS).flat_map(|uptime| row(named, uptime));
+        let log = (1..=MOST_ROWS).flat_map(|uptime| row(form.order(), named, uptime));
         let image = Image {
             log: log.collect(),
             ..image.clone()
@@ -103,14 +129,14 @@ pub fn logged() -> [(&'static str, Image); 2] {
 }
 
 /// A row of the log: record address, uptime, thread, kind.
-fn row(record: u32, uptime: u32) -> Vec<u8> {
+fn row(order: Order, record: u32, uptime: u32) -> Vec<u8> {
     let words = [record, uptime, THREAD, 1];
-    words.iter().flat_map(|word| word.to_be_bytes()).collect()
+    words.map(|word| word_bytes(order, word)).concat()
 }
 
 /// Every buffer is out, whole and with several sizes in turn.
-fn all_allocated(size: usize, count: usize) -> Image {
-    let mut image = all_free(size, count);
+fn all_allocated(form: Form, size: usize, count: usize) -> Image {
+    let mut image = all_free(form, size, count);
     for buffer in 0..count {
         allocate(
             &mut image.sheet,

@@ -4,8 +4,8 @@
 mod calls;
 mod fill;
 mod growth;
-mod images;
 mod limits;
+mod orders;
 mod plain;
 mod reader;
 mod requirement;
@@ -34,6 +34,14 @@ an equal copy; a plain read of them, the sum of their 8-byte words; and a byte s
 loop that compares one byte after the other with the free fill and stops at the first
 that differs. The scan reads a run as long as the heap which is that fill throughout;
 the heap's own redzones and tags would stop it.
+";
+
+const ORDERS: &str = "
+### Both orders
+
+Inspect of an image whose words have their low byte first, beside the same image with the
+high byte first: the same words and the same findings. In the other tables the high byte
+stands first, but in the rows that say otherwise.
 ";
 
 const PLAIN: &str = "
@@ -103,6 +111,8 @@ fn main() -> ExitCode {
 
     println!("{READER}");
     let mut requirements = Vec::from(reader::time_reader());
+    println!("{ORDERS}");
+    requirements.push(orders::time_orders());
     println!("{PLAIN}");
     requirements.extend(plain::time_plain());
     println!("{FILL}");

@@ -2,15 +2,15 @@
 
 use std::hint::black_box;
 
-use differential::Image;
+use bench::images::{all_free, half_allocated, hurt, logged, Make, LARGEST, MOST_ROWS};
+use differential::{Form, Image, LONG_FORMS};
 
 use crate::calls::{pair_by_library, THREAD, UPTIME};
-use crate::images::{all_free, half_allocated, hurt, logged, LARGEST, MOST_ROWS};
 use crate::reader::inspect_by_library;
 use crate::requirement::Requirement;
 use crate::timing::{race, Times};
 
-type Kind = (&'static str, fn(usize, usize) -> Image);
+type Kind = (&'static str, Make);
 
 const KINDS: [Kind; 3] = [
     ("all free", all_free),
@@ -22,20 +22,31 @@ pub const HEAD: &str = "\
 | call | Rattle | plain C | ratio | middle half of ratios |
 |---|--:|--:|--:|--:|";
 
-/// Times the calls by the library and in plain C.
-pub fn time_plain() -> [Requirement; 3] {
+/// Times the calls by the library and in plain C, on images of both orders.
+pub fn time_plain() -> Vec<Requirement> {
     println!("{HEAD}");
-    [time_inspect(), time_latest(), time_pairs()]
+    let calls = [time_inspect, time_latest, time_pairs];
+    let requirements = calls.into_iter().flat_map(|time| LONG_FORMS.map(time));
+    requirements.collect()
 }
 
-fn time_inspect() -> Requirement {
-    let mut requirement = Requirement::new("inspect: to plain C", 1.25);
+/// A call by its name, and by the order of its images where that is not the older one.
+fn named(call: &str, form: Form) -> String {
+    match form {
+        Form::Short | Form::High => call.to_string(),
+        Form::Low => format!("{call}, low first"),
+    }
+}
+
+fn time_inspect(form: Form) -> Requirement {
+    let call = named("inspect", form);
+    let mut requirement = Requirement::new(&format!("{call}: to plain C"), 1.25);
     for (size, count) in LARGEST {
         for (kind, make) in KINDS {
-            let image = make(size, count);
+            let image = make(form, size, count);
             let faults = faults_found(&image);
             let [rattle, plain] = race_inspect(&image);
-            let case = format!("inspect, {size} x {count}, {kind}");
+            let case = format!("{call}, {size} x {count}, {kind}");
             let row = format!("{case}, {faults} faults");
             requirement.add(&case, print_row(&row, &rattle, &plain));
         }
@@ -88,9 +99,10 @@ fn check(answer: u64) {
     assert_eq!(refusal, 0, "a lawful call");
 }
 
-fn time_latest() -> Requirement {
-    let mut requirement = Requirement::new("latest: to plain C", 1.25);
-    for (kind, image) in logged() {
+fn time_latest(form: Form) -> Requirement {
+    let call = named("latest", form);
+    let mut requirement = Requirement::new(&format!("{call}: to plain C"), 1.25);
+    for (kind, image) in logged(form) {
         let index = image.shape.count as u32 - 1;
         let Image {
             sheet,
@@ -106,18 +118,19 @@ fn time_latest() -> Requirement {
             Box::new(|| check(by_library().0)),
             Box::new(|| check(by_plain())),
         ]);
-        let case = format!("latest, 112 x 512, {MOST_ROWS} rows, {kind}");
+        let case = format!("{call}, 112 x 512, {MOST_ROWS} rows, {kind}");
         requirement.add(&case, print_row(&case, &rattle, &plain));
     }
     requirement
 }
 
 /// An allocate and the free of the same buffer, after which the chain is as before.
-fn time_pairs() -> Requirement {
-    let mut requirement = Requirement::new("allocate and free: to plain C", 1.5);
+fn time_pairs(form: Form) -> Requirement {
+    let call = named("allocate and free", form);
+    let mut requirement = Requirement::new(&format!("{call}: to plain C"), 1.5);
     for (size, count) in LARGEST {
         let grant = size as u32 - 4;
-        let [mut image, mut plain_image] = [(); 2].map(|()| all_free(size, count));
+        let [mut image, mut plain_image] = [(); 2].map(|()| all_free(form, size, count));
         pair_by_library(&mut image, grant);
         pair_by_plain(&mut plain_image, grant);
         assert_eq!(image.input(), plain_image.input(), "allocate and free");
@@ -125,7 +138,7 @@ fn time_pairs() -> Requirement {
             Box::new(|| pair_by_library(&mut image, grant)),
             Box::new(|| pair_by_plain(&mut plain_image, grant)),
         ]);
-        let case = format!("allocate and free, {size} x {count}");
+        let case = format!("{call}, {size} x {count}");
         requirement.add(&case, print_row(&case, &rattle, &plain));
     }
     requirement

@@ -2,12 +2,10 @@
 
 use std::hint::black_box;
 
-use differential::Image;
+use bench::images::{logged, KINDS, LARGEST, MOST_ROWS};
+use differential::{Form, Image};
 use reference::Finding;
 
-use crate::images::{
-    all_free, chained_back, chained_far, half_allocated, hurt, logged, LARGEST, MOST_ROWS,
-};
 use crate::limits::{compare, filled, read, scan};
 use crate::requirement::Requirement;
 use crate::table::{print_sides, SIDES_HEAD};
@@ -21,18 +19,6 @@ const HEAD: &str = "\
 | image | faults | call | Rattle | second program | ratio | middle half of ratios | memcmp \
 | plain read | byte scan | Rattle to byte scan |
 |---|--:|---|--:|--:|--:|--:|--:|--:|--:|--:|";
-
-/// A way to make an image, and whether every buffer of it is free, so that all of its
-/// buffers' bytes are compared with the free fill.
-type Kind = (&'static str, fn(usize, usize) -> Image, bool);
-
-const KINDS: [Kind; 5] = [
-    ("all free", all_free, true),
-    ("half allocated", half_allocated, false),
-    ("hurt", hurt, false),
-    ("all free, chain reversed", chained_back, true),
-    ("all free, chain in long jumps", chained_far, true),
-];
 
 /// What a line of the report may take beside the judging, in nanoseconds.
 const LINE: f64 = 20.0;
@@ -54,7 +40,8 @@ pub fn time_reader() -> [Requirement; 5] {
     for (size, count) in LARGEST {
         for (kind, make, is_free) in KINDS {
             let case = format!("{size} x {count}, {kind}");
-            time_image(&case, &make(size, count), is_free, &mut requirements);
+            let image = make(Form::High, size, count);
+            time_image(&case, &image, is_free, &mut requirements);
         }
     }
     requirements
@@ -170,7 +157,7 @@ fn report_by_second(image: &Image, output: &mut [u8]) {
 /// Times the latest transaction of the last buffer, with the longest log.
 pub fn time_latest() {
     println!("{SIDES_HEAD}");
-    for (kind, image) in logged() {
+    for (kind, image) in logged(Form::High) {
         let case = format!("latest, 112 x 512, {MOST_ROWS} rows, {kind}");
         time_log(&case, &image, image.shape.count as u32 - 1);
     }

@@ -4,15 +4,15 @@ use std::fmt::{Display, Formatter, Result};
 
 /// A ratio that may not be passed in any case.
 pub struct Requirement {
-    what: &'static str,
+    what: String,
     limit: f64,
     cases: Vec<(String, f64)>,
 }
 
 impl Requirement {
-    pub fn new(what: &'static str, limit: f64) -> Requirement {
+    pub fn new(what: &str, limit: f64) -> Requirement {
         Requirement {
-            what,
+            what: what.to_string(),
             limit,
             cases: Vec::new(),
         }

@@ -18,16 +18,22 @@ enum {
 #define ALLOCATED_TAG 0xa110c8edu
 #define FREE_TAG 0xf4eef4eeu
 #define REDZONE 0xfeedfaceu
-#define FULL_SIZE_REDZONE 0xbbedfaceu
 #define GUARD 0xbb
 #define CODE_FACTOR 251
+
+/* R0 of a full-size grant: the guard byte stands on its first byte. */
+#define FULL_SIZE_REDZONE(order) ((order) == HIGH_FIRST ? 0xbbedfaceu : 0xfeedfabbu)
 
 /* The longest buffer, filled with a word of these bytes. */
 #define FOUR_TIMES(...) __VA_ARGS__, __VA_ARGS__, __VA_ARGS__, __VA_ARGS__
 #define WORDS_64(...) FOUR_TIMES(FOUR_TIMES(FOUR_TIMES(__VA_ARGS__)))
 #define PAGE(...) {FOUR_TIMES(FOUR_TIMES(WORDS_64(__VA_ARGS__)))}
 
-static const uint8_t free_page[SIZE_MOST] = PAGE(0xde, 0xad, 0xbe, 0xef);
+/* One for each order. */
+static const uint8_t free_pages[2][SIZE_MOST] = {
+    [HIGH_FIRST] = PAGE(0xde, 0xad, 0xbe, 0xef),
+    [LOW_FIRST] = PAGE(0xef, 0xbe, 0xad, 0xde),
+};
 
 struct tag {
     uint32_t record; /* an address */
@@ -39,10 +45,10 @@ struct verdict {
     uint32_t value; /* the size or the offset, else 0 */
 };
 
-static inline struct tag tag_of(const uint8_t *buffer, uint32_t size)
+FOR_EACH_ORDER struct tag tag_of(enum order order, const uint8_t *buffer, uint32_t size)
 {
-    uint32_t t0 = word_at(buffer + size + T0);
-    return (struct tag){t0, t0 ^ word_at(buffer + size + T1)};
+    uint32_t t0 = word_at(order, buffer + size + T0);
+    return (struct tag){t0, t0 ^ word_at(order, buffer + size + T1)};
 }
 
 static inline bool has_pattern(struct tag tag)
@@ -50,13 +56,14 @@ static inline bool has_pattern(struct tag tag)
     return tag.pattern == FREE_TAG || tag.pattern == ALLOCATED_TAG;
 }
 
-/* Which byte of two different words is the first to differ, the highest being byte 0. */
-static inline uint32_t first_difference(uint32_t word, uint32_t other)
+/* Which byte of two different words is the first to differ, as they stand in an image. */
+FOR_EACH_ORDER uint32_t first_difference(enum order order, uint32_t word, uint32_t other)
 {
-    return (uint32_t)__builtin_clz(word ^ other) / 8;
+    uint32_t bits = word ^ other;
+    return (uint32_t)(order == HIGH_FIRST ? __builtin_clz(bits) : __builtin_ctz(bits)) / 8;
 }
 
-static inline struct verdict bad_fill(const uint8_t *buffer)
+static inline struct verdict bad_fill(const uint8_t *buffer, const uint8_t *free_page)
 {
     uint32_t offset = 0;
     while (buffer[offset] == free_page[offset])
@@ -65,25 +72,27 @@ static inline struct verdict bad_fill(const uint8_t *buffer)
 }
 
 /* The rules from 25 on, for a buffer with the free pattern. */
-static inline struct verdict judge_free(const uint8_t *buffer, uint32_t size)
+FOR_EACH_ORDER struct verdict judge_free(enum order order,
+                                         const uint8_t *buffer, uint32_t size)
 {
-    if (memcmp(buffer, free_page, size) != 0)
-        return bad_fill(buffer);
-    uint32_t r0 = word_at(buffer + size + R0);
+    if (memcmp(buffer, free_pages[order], size) != 0)
+        return bad_fill(buffer, free_pages[order]);
+    uint32_t r0 = word_at(order, buffer + size + R0);
     if (r0 != REDZONE)
-        return (struct verdict){BAD_REDZONE, size + R0 + first_difference(r0, REDZONE)};
-    uint32_t r1 = word_at(buffer + size + R1);
+        return (struct verdict){BAD_REDZONE, size + R0 + first_difference(order, r0, REDZONE)};
+    uint32_t r1 = word_at(order, buffer + size + R1);
     if (r1 != REDZONE)
-        return (struct verdict){BAD_REDZONE, size + R1 + first_difference(r1, REDZONE)};
+        return (struct verdict){BAD_REDZONE, size + R1 + first_difference(order, r1, REDZONE)};
     return (struct verdict){FREE, 0};
 }
 
 /* The rules from 27 on, for a buffer with the allocated pattern. */
-static inline struct verdict judge_allocated(const uint8_t *buffer, uint32_t size)
+FOR_EACH_ORDER struct verdict judge_allocated(enum order order,
+                                              const uint8_t *buffer, uint32_t size)
 {
     struct verdict sound = {WHOLE, 0};
     uint32_t expected = REDZONE;
-    uint32_t r1 = word_at(buffer + size + R1);
+    uint32_t r1 = word_at(order, buffer + size + R1);
     if (r1 != REDZONE) {
         uint32_t granted = r1 / CODE_FACTOR;
         if (r1 % CODE_FACTOR != 1 || granted < 1 || granted > size)
@@ -91,12 +100,12 @@ static inline struct verdict judge_allocated(const uint8_t *buffer, uint32_t siz
         if (buffer[granted] != GUARD)
             return (struct verdict){OVERRUN, granted};
         if (granted == size)
-            expected = FULL_SIZE_REDZONE;
+            expected = FULL_SIZE_REDZONE(order);
         sound = (struct verdict){ALLOCATED, granted};
     }
-    uint32_t r0 = word_at(buffer + size + R0);
+    uint32_t r0 = word_at(order, buffer + size + R0);
     if (r0 != expected)
-        return (struct verdict){OVERRUN, size + R0 + first_difference(r0, expected)};
+        return (struct verdict){OVERRUN, size + R0 + first_difference(order, r0, expected)};
     return sound;
 }
 

@@ -1,6 +1,10 @@
 /*
- * The sheet and the areas as every call here reads them, for a machine whose lowest byte
- * stands first. All of it is compiled into the calls.
+ * The sheet and the areas as every call here reads them. All of it is compiled into the
+ * calls.
+ *
+ * What reads or writes words takes their order as its first argument. A call looks at the
+ * image's order once and then names one, so that it is compiled for each: there a word is
+ * read as the machine reads it, and turned only where the image has the other order.
  */
 #ifndef PLAIN_IMAGE_H
 #define PLAIN_IMAGE_H
@@ -10,8 +14,24 @@
 #include <stdint.h>
 #include <string.h>
 
+/* Which byte of a word stands first. Tag 9 of the sheet has these numbers. */
+enum order {
+    HIGH_FIRST = 0,
+    LOW_FIRST = 1
+};
+
+#if __BYTE_ORDER__ == __ORDER_LITTLE_ENDIAN__
+#define MACHINE_ORDER LOW_FIRST
+#else
+#define MACHINE_ORDER HIGH_FIRST
+#endif
+
+/* For what is to be compiled once for each order. */
+#define FOR_EACH_ORDER static inline __attribute__((always_inline))
+
 enum {
-    SHEET_LENGTH = 48,
+    SHORT_SHEET_LENGTH = 48, /* without tag 9: the high byte stands first */
+    SHEET_LENGTH = 52,
     RECORD_LENGTH = 96,
     SIZE_MOST = 4096,
     BUFFERS_MOST = 512,
@@ -28,15 +48,20 @@ enum {
     CHUNK_SIZE = 29,
     COUNT = 34,
     HEAD = 39,
-    FLAGS_BODY = 46
+    FLAGS_BODY = 46,
+    ORDER = 51
+};
+
+/* Where the last field of the longer form starts. */
+enum {
+    ORDER_TAG = 48
 };
 
 /* Where the words stand in a record. */
 enum {
     NEXT = 0,
     ADDRESS = 4,
-    STAMP_HIGH = 16,
-    STAMP_LOW = 20,
+    STAMP = 16, /* one number of eight bytes */
     THREAD = 24
 };
 
@@ -76,6 +101,7 @@ enum {
 #define NO_RECORD 0xffff
 
 struct image {
+    enum order order;
     uint32_t heap_base;
     uint32_t record_base;
     uint32_t size;
@@ -84,24 +110,38 @@ struct image {
     uint32_t head;
 };
 
+/* Of the sheet, whose fields have their high byte first in every image. */
 static inline uint32_t half_at(const uint8_t *at)
 {
-    uint16_t half;
-    memcpy(&half, at, sizeof half);
-    return __builtin_bswap16(half);
+    return (uint32_t)at[0] << 8 | at[1];
 }
 
-static inline uint32_t word_at(const uint8_t *at)
+FOR_EACH_ORDER uint32_t word_at(enum order order, const uint8_t *at)
 {
     uint32_t word;
     memcpy(&word, at, sizeof word);
-    return __builtin_bswap32(word);
+    return order == MACHINE_ORDER ? word : __builtin_bswap32(word);
 }
 
-static inline void put_word(uint8_t *at, uint32_t word)
+FOR_EACH_ORDER void put_word(enum order order, uint8_t *at, uint32_t word)
 {
-    word = __builtin_bswap32(word);
+    if (order != MACHINE_ORDER)
+        word = __builtin_bswap32(word);
     memcpy(at, &word, sizeof word);
+}
+
+FOR_EACH_ORDER uint64_t long_at(enum order order, const uint8_t *at)
+{
+    uint64_t number;
+    memcpy(&number, at, sizeof number);
+    return order == MACHINE_ORDER ? number : __builtin_bswap64(number);
+}
+
+FOR_EACH_ORDER void put_long(enum order order, uint8_t *at, uint64_t number)
+{
+    if (order != MACHINE_ORDER)
+        number = __builtin_bswap64(number);
+    memcpy(at, &number, sizeof number);
 }
 
 static inline uint64_t accepted(uint32_t value)
@@ -114,7 +154,8 @@ static inline uint64_t damage(uint32_t detail)
     return DAMAGE | detail << 8;
 }
 
-static inline bool has_stated_fields(const uint8_t *sheet)
+/* The fields of both forms. */
+static inline bool has_first_fields(const uint8_t *sheet)
 {
     static const uint8_t lengths[8] = {4, 4, 4, 2, 2, 2, 4, 2};
     for (uint32_t field = 0; field < 8; field++) {
@@ -125,15 +166,30 @@ static inline bool has_stated_fields(const uint8_t *sheet)
     return true;
 }
 
-static inline struct image read_numbers(const uint8_t *sheet)
+/* The last field of the longer form. */
+static inline bool has_order_field(const uint8_t *sheet)
+{
+    return sheet[ORDER_TAG] == 9 && half_at(sheet + ORDER_TAG + 1) == 1;
+}
+
+static inline bool has_stated_fields(const uint8_t *sheet, size_t sheet_length)
+{
+    if (sheet_length == SHEET_LENGTH)
+        return has_first_fields(sheet) && has_order_field(sheet);
+    return sheet_length == SHORT_SHEET_LENGTH && has_first_fields(sheet);
+}
+
+/* The order by its number, which may be none. */
+static inline struct image read_numbers(const uint8_t *sheet, size_t sheet_length)
 {
     return (struct image){
-        .heap_base = word_at(sheet + HEAP_BASE),
-        .record_base = word_at(sheet + RECORD_BASE),
+        .order = sheet_length == SHEET_LENGTH ? sheet[ORDER] : HIGH_FIRST,
+        .heap_base = word_at(HIGH_FIRST, sheet + HEAP_BASE),
+        .record_base = word_at(HIGH_FIRST, sheet + RECORD_BASE),
         .size = half_at(sheet + SIZE),
         .chunk_size = half_at(sheet + CHUNK_SIZE),
         .count = half_at(sheet + COUNT),
-        .head = word_at(sheet + HEAD),
+        .head = word_at(HIGH_FIRST, sheet + HEAD),
     };
 }
 
@@ -159,6 +215,8 @@ static inline bool has_lawful_numbers(const struct image *image, uint32_t flags)
         return false;
     if (image->chunk_size != size + TAIL_LENGTH || flags != FLAGS)
         return false;
+    if (image->order != HIGH_FIRST && image->order != LOW_FIRST)
+        return false;
     if (image->count < 1 || image->count > BUFFERS_MOST)
         return false;
     if (heap_length_of(image) > HEAP_MOST)
@@ -182,9 +240,9 @@ static inline uint64_t open_image(struct image *image,
                                   const uint8_t *sheet, size_t sheet_length,
                                   size_t heap_length, size_t records_length)
 {
-    if (sheet_length != SHEET_LENGTH || !has_stated_fields(sheet))
+    if (!has_stated_fields(sheet, sheet_length))
         return BAD_SHEET;
-    *image = read_numbers(sheet);
+    *image = read_numbers(sheet, sheet_length);
     if (!has_lawful_numbers(image, half_at(sheet + FLAGS_BODY)))
         return BAD_NUMBER;
     if (heap_length != heap_length_of(image))

@@ -17,7 +17,8 @@
  * rounded down, plus 1, m * c is above 2^32 by at most c; so d * m / 2^32, rounded
  * down, is d / c for every d with d * c below 2^32, and d is below 65,536 here.
  */
-static void pair(const struct image *image, const uint8_t *records, uint16_t *own_record)
+FOR_EACH_ORDER void pair(enum order order, const struct image *image,
+                         const uint8_t *records, uint16_t *own_record)
 {
     uint32_t chunk_size = image->chunk_size;
     uint32_t heap_length = heap_length_of(image);
@@ -25,7 +26,7 @@ static void pair(const struct image *image, const uint8_t *records, uint16_t *ow
 
     memset(own_record, 0xff, image->count * sizeof *own_record);
     for (uint32_t record = 0; record < image->count; record++) {
-        uint32_t address = word_at(records + record * RECORD_LENGTH + ADDRESS);
+        uint32_t address = word_at(order, records + record * RECORD_LENGTH + ADDRESS);
         uint32_t distance = address - image->heap_base;
         if (distance >= heap_length)
             continue;
@@ -41,7 +42,8 @@ static void pair(const struct image *image, const uint8_t *records, uint16_t *ow
  * Marks the records that the chain meets, and answers the one that it comes back to, or
  * NO_RECORD. No verdict tells an end from a break: 0 is no record's address either.
  */
-static uint32_t walk(const struct image *image, const uint8_t *records, bool *is_met)
+FOR_EACH_ORDER uint32_t walk(enum order order, const struct image *image,
+                             const uint8_t *records, bool *is_met)
 {
     uint32_t records_length = records_length_of(image);
     uint32_t address = image->head;
@@ -55,15 +57,16 @@ static uint32_t walk(const struct image *image, const uint8_t *records, bool *is
         if (is_met[record])
             return record;
         is_met[record] = true;
-        address = word_at(records + distance + NEXT);
+        address = word_at(order, records + distance + NEXT);
     }
 }
 
 /* The rules from 21 on, for a buffer that has its own record. */
-static inline struct verdict judge(const struct image *image, const uint8_t *buffer,
-                                   uint32_t own_record, bool is_met, uint32_t again)
+FOR_EACH_ORDER struct verdict judge(enum order order, const struct image *image,
+                                    const uint8_t *buffer, uint32_t own_record,
+                                    bool is_met, uint32_t again)
 {
-    struct tag tag = tag_of(buffer, image->size);
+    struct tag tag = tag_of(order, buffer, image->size);
     if (tag.record != image->record_base + own_record * RECORD_LENGTH)
         return (struct verdict){BAD_TAG, 0};
     if (!has_pattern(tag))
@@ -73,30 +76,45 @@ static inline struct verdict judge(const struct image *image, const uint8_t *buf
     if (tag.pattern == FREE_TAG) {
         if (!is_met)
             return (struct verdict){OFF_CHAIN, 0};
-        return judge_free(buffer, image->size);
+        return judge_free(order, buffer, image->size);
     }
     if (is_met)
         return (struct verdict){ON_CHAIN, 0};
-    return judge_allocated(buffer, image->size);
+    return judge_allocated(order, buffer, image->size);
 }
 
-static void judge_all(const struct image *image, const uint8_t *heap,
-                      const uint8_t *records, uint32_t *restrict rows)
+FOR_EACH_ORDER void judge_all(enum order order, const struct image *image,
+                              const uint8_t *heap, const uint8_t *records,
+                              uint32_t *restrict rows)
 {
     uint16_t own_record[BUFFERS_MOST];
     bool is_met[BUFFERS_MOST];
 
-    pair(image, records, own_record);
-    uint32_t again = walk(image, records, is_met);
+    pair(order, image, records, own_record);
+    uint32_t again = walk(order, image, records, is_met);
     for (uint32_t i = 0; i < image->count; i++) {
         struct verdict verdict = {NOT_ONE_RECORD, 0};
         uint32_t own = own_record[i];
-        if (own < image->count)
-            verdict = judge(image, heap + i * image->chunk_size, own, is_met[own], again);
+        if (own < image->count) {
+            const uint8_t *buffer = heap + i * image->chunk_size;
+            verdict = judge(order, image, buffer, own, is_met[own], again);
+        }
         rows[3 * i] = i;
         rows[3 * i + 1] = verdict.number;
         rows[3 * i + 2] = verdict.value;
     }
+}
+
+static void judge_high_first(const struct image *image, const uint8_t *heap,
+                             const uint8_t *records, uint32_t *restrict rows)
+{
+    judge_all(HIGH_FIRST, image, heap, records, rows);
+}
+
+static void judge_low_first(const struct image *image, const uint8_t *heap,
+                            const uint8_t *records, uint32_t *restrict rows)
+{
+    judge_all(LOW_FIRST, image, heap, records, rows);
 }
 
 uint64_t plain_inspect(const uint8_t *sheet, size_t sheet_length,
@@ -111,6 +129,9 @@ uint64_t plain_inspect(const uint8_t *sheet, size_t sheet_length,
     if (rows_length < 3 * image.count)
         return SHORT_OUTPUT;
 
-    judge_all(&image, heap, records, rows);
+    if (image.order == HIGH_FIRST)
+        judge_high_first(&image, heap, records, rows);
+    else
+        judge_low_first(&image, heap, records, rows);
     return accepted(image.count);
 }

@@ -18,13 +18,13 @@ enum {
 #define RECORD_MARK 0x80000000u
 
 /* The one record that names the buffer at an address, or NO_RECORD. */
-static uint32_t own_record(const struct image *image, const uint8_t *records,
-                           uint32_t address)
+FOR_EACH_ORDER uint32_t own_record(enum order order, const struct image *image,
+                                   const uint8_t *records, uint32_t address)
 {
     uint32_t own = NO_RECORD;
     uint32_t names = 0;
     for (uint32_t record = 0; record < image->count; record++) {
-        if (word_at(records + record * RECORD_LENGTH + ADDRESS) == address) {
+        if (word_at(order, records + record * RECORD_LENGTH + ADDRESS) == address) {
             own = record;
             names++;
         }
@@ -33,17 +33,17 @@ static uint32_t own_record(const struct image *image, const uint8_t *records,
 }
 
 /* The youngest of a record and the rows that name it, as the answer's value. */
-static uint32_t youngest(const struct image *image, const uint8_t *records,
-                         const uint8_t *log, size_t log_length,
-                         uint32_t record, uint32_t now)
+FOR_EACH_ORDER uint32_t youngest(enum order order, const struct image *image,
+                                 const uint8_t *log, size_t log_length,
+                                 uint32_t record, uint32_t stamp, uint32_t now)
 {
     uint32_t address = image->record_base + record * RECORD_LENGTH;
     uint32_t found = RECORD_MARK + record;
-    uint32_t least_age = now - word_at(records + record * RECORD_LENGTH + STAMP_LOW);
+    uint32_t least_age = now - stamp;
     for (size_t at = 0; at < log_length; at += ROW_LENGTH) {
-        if (word_at(log + at + ROW_RECORD) != address)
+        if (word_at(order, log + at + ROW_RECORD) != address)
             continue;
-        uint32_t age = now - word_at(log + at + ROW_UPTIME);
+        uint32_t age = now - word_at(order, log + at + ROW_UPTIME);
         /* On a tie the row wins, over the record and over an earlier row. */
         if (age <= least_age) {
             least_age = age;
@@ -51,6 +51,21 @@ static uint32_t youngest(const struct image *image, const uint8_t *records,
         }
     }
     return found;
+}
+
+/* The answer for a buffer at an address, in an image of this order. */
+FOR_EACH_ORDER uint64_t latest_of(enum order order, const struct image *image,
+                                  const uint8_t *records,
+                                  const uint8_t *log, size_t log_length,
+                                  uint32_t address, uint32_t now)
+{
+    uint32_t own = own_record(order, image, records, address);
+    if (own == NO_RECORD)
+        return damage(NOT_ONE_RECORD);
+    uint64_t stamp = long_at(order, records + own * RECORD_LENGTH + STAMP);
+    if (stamp > UINT32_MAX)
+        return WIDE_STAMP;
+    return accepted(youngest(order, image, log, log_length, own, (uint32_t)stamp, now));
 }
 
 uint64_t plain_latest(const uint8_t *sheet, size_t sheet_length,
@@ -68,10 +83,8 @@ uint64_t plain_latest(const uint8_t *sheet, size_t sheet_length,
         return BAD_LENGTH;
     if (index >= image.count)
         return NO_SUCH_BUFFER;
-    uint32_t own = own_record(&image, records, image.heap_base + index * image.chunk_size);
-    if (own == NO_RECORD)
-        return damage(NOT_ONE_RECORD);
-    if (word_at(records + own * RECORD_LENGTH + STAMP_HIGH) != 0)
-        return WIDE_STAMP;
-    return accepted(youngest(&image, records, log, log_length, own, now));
+    uint32_t address = image.heap_base + index * image.chunk_size;
+    if (image.order == HIGH_FIRST)
+        return latest_of(HIGH_FIRST, &image, records, log, log_length, address, now);
+    return latest_of(LOW_FIRST, &image, records, log, log_length, address, now);
 }

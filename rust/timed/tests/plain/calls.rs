@@ -5,7 +5,7 @@ use std::fmt::Display;
 use differential::hurt::{HEAD_HURTS, HURTS};
 use differential::neighbours::{each_neighbour, each_small_size_code};
 use differential::samples::dump;
-use differential::{some_shape, Case, Image, Sequence};
+use differential::{some_shape, Case, Image, Sequence, FORMS};
 use reference::Grant;
 
 use crate::counts::{accepted, hurt, refusal, refusals, Counts};
@@ -126,10 +126,11 @@ fn lists_on_fresh_heaps() {
     let mut counts = Counts::default();
     let mut sequence = Sequence::new(SEED);
     for number in 0..3_000 {
+        let form = FORMS[number % FORMS.len()];
         let shape = some_shape(&mut sequence);
-        let story = format!("list {number}, seed {SEED:#x}: {shape:x?}");
-        let times = [sequence.word(); 5];
-        let mut twin = Twin::new(Image::laid_out(shape, times), &story, &mut sequence);
+        let story = format!("list {number}, seed {SEED:#x}: {form:?} {shape:x?}");
+        let image = Image::laid_out(form, shape, [sequence.word(); 5]);
+        let mut twin = Twin::new(image, &story, &mut sequence);
         note_extremes(&twin.image, &mut counts);
         let mut eagerness = 24;
         for _ in 0..sequence.below(100) + 2 * shape.count {
@@ -159,7 +160,7 @@ fn note_extremes(image: &Image, counts: &mut Counts) {
         ("heap", shape.heap_length()),
     ];
     for number in numbers.iter().filter(|number| EXTREMES.contains(number)) {
-        counts.note(extreme(*number));
+        counts.note(image.form, extreme(*number));
     }
 }
 
@@ -199,7 +200,9 @@ fn every_pair_of_grants() {
                 allocate(granted),
                 free(BUFFER, freed),
             ];
-            run_all(&dump(), calls, &"dump", &mut counts, &mut sequence);
+            for image in FORMS.map(dump) {
+                run_all(&image, calls, &image, &mut counts, &mut sequence);
+            }
         }
     }
     let wanted = refusals("free", &[(8, 0), (9, 0)]);

@@ -2,44 +2,58 @@
 
 use std::collections::BTreeMap;
 
+use differential::{Form, FORMS};
 use reference::{Finding, Refusal};
 
 /// Every verdict there is.
 pub const VERDICTS: [u32; 12] = [0, 1, 2, 20, 21, 22, 23, 24, 25, 26, 27, 28];
 
-/// How often each thing was met.
+/// How often each thing was met, for each form that the images were made in.
 #[derive(Default)]
-pub struct Counts(BTreeMap<String, usize>);
+pub struct Counts(BTreeMap<(Form, String), usize>);
 
 impl Counts {
-    pub fn note(&mut self, met: String) {
-        *self.0.entry(met).or_default() += 1;
+    pub fn note(&mut self, form: Form, met: String) {
+        *self.0.entry((form, met)).or_default() += 1;
     }
 
-    pub fn note_found(&mut self, found: &Result<Vec<Finding>, Refusal>) {
+    pub fn note_found(&mut self, form: Form, found: &Result<Vec<Finding>, Refusal>) {
         match found {
             Ok(findings) => {
                 for finding in findings {
-                    self.note(verdict(finding.verdict.number()));
+                    self.note(form, verdict(finding.verdict.number()));
                 }
             }
-            Err(refused) => self.note_refusal("inspect", *refused),
+            Err(refused) => self.note_refusal(form, "inspect", *refused),
         }
     }
 
-    pub fn note_refusal(&mut self, call: &str, refused: Refusal) {
-        self.note(refusal(call, (refused.number, refused.detail)));
+    pub fn note_refusal(&mut self, form: Form, call: &str, refused: Refusal) {
+        self.note(form, refusal(call, (refused.number, refused.detail)));
     }
 
-    /// Prints the counts, and fails where a thing that can be met was not.
+    /// Prints the counts, and fails where a thing that can be met was not, in any form.
     pub fn finish(&self, title: &str, seed: u64, wanted: impl IntoIterator<Item = String>) {
         println!("plain C, {title}, seed {seed:#x}");
-        for (met, count) in &self.0 {
-            println!("  {met}: {count}");
+        for ((form, met), count) in &self.0 {
+            println!("  {}, {met}: {count}", name(*form));
         }
         for met in wanted {
-            assert!(self.0.contains_key(&met), "{title}: {met} was never met");
+            for form in FORMS {
+                let is_met = self.0.contains_key(&(form, met.clone()));
+                assert!(is_met, "{title}, {}: {met} was never met", name(form));
+            }
         }
+    }
+}
+
+/// The order of the words, and which of its two sheets the one with the high byte first
+/// has.
+fn name(form: Form) -> &'static str {
+    match form {
+        Form::Short => "high first by a short sheet",
+        Form::High => "high first",
+        Form::Low => "low first",
     }
 }
 

@@ -1,7 +1,7 @@
 //! Allocates and frees that an image accepts, and ones that it refuses for every reason
 //! there is.
 
-use differential::{word, Image, Sequence};
+use differential::{Image, Sequence};
 use reference::{Grant, Refusal};
 use timed::{plain_allocate, plain_free};
 
@@ -113,7 +113,7 @@ fn near_grant(image: &Image, buffer: usize, sequence: &mut Sequence) -> Grant {
 
 /// The grant that a buffer's R1 tells, as well as it can be told.
 pub fn told_grant(image: &Image, buffer: usize) -> Grant {
-    match word(&image.heap, image.r1(buffer)) {
+    match image.heap_word(image.r1(buffer)) {
         REDZONE => Grant::Whole,
         code => Grant::Sized(code / 251),
     }

@@ -58,9 +58,9 @@ fn hurt_images() {
         let (case, mut sequence) = Case::new(SEED, number);
         let room = sequence.room(3 * case.image.shape.count);
         let found = compare(&case.image, room, &mut sequence, &case);
-        counts.note_found(&found);
+        counts.note_found(case.image.form, &found);
         for name in case.hurts {
-            counts.note(hurt(name));
+            counts.note(case.image.form, hurt(name));
         }
     }
     let hurts = HURTS.iter().map(|(name, _)| hurt(name));
@@ -78,7 +78,7 @@ fn sound_images() {
         let room = 3 * image.shape.count;
         let found = compare(&image, room, &mut sequence, &image);
         assert!(found.is_ok(), "a sound image is not refused: {image}");
-        counts.note_found(&found);
+        counts.note_found(image.form, &found);
     }
     counts.finish("inspect, sound images", SEED, [0, 1, 2].map(verdict));
 }
@@ -87,7 +87,10 @@ fn sound_images() {
 fn neighbours_of_the_dump() {
     let mut counts = Counts::default();
     let mut sequence = Sequence::new(SEED);
-    each_neighbour(|image| counts.note_found(&compare(image, 10, &mut sequence, image)));
+    each_neighbour(|image| {
+        let found = compare(image, 10, &mut sequence, image);
+        counts.note_found(image.form, &found);
+    });
     // A chain comes back only when a whole address is written.
     let verdicts = VERDICTS.iter().filter(|number| **number != 22);
     let wanted = verdicts.map(|number| verdict(*number));
@@ -101,7 +104,8 @@ fn every_length() {
     let mut sequence = Sequence::new(SEED);
     each_length(|image| {
         for room in [0, 1, 8, 9, 10] {
-            counts.note_found(&compare(image, room, &mut sequence, image));
+            let found = compare(image, room, &mut sequence, image);
+            counts.note_found(image.form, &found);
         }
     });
     let wanted = [verdict(0), verdict(2)].into_iter();
@@ -113,7 +117,10 @@ fn every_length() {
 fn every_small_size_code() {
     let mut counts = Counts::default();
     let mut sequence = Sequence::new(SEED);
-    each_small_size_code(|image| counts.note_found(&compare(image, 9, &mut sequence, image)));
+    each_small_size_code(|image| {
+        let found = compare(image, 9, &mut sequence, image);
+        counts.note_found(image.form, &found);
+    });
     let wanted = [2, 27, 28].map(verdict);
     counts.finish("inspect, every small size code", SEED, wanted);
 }

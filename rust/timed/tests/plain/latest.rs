@@ -48,10 +48,10 @@ fn note(counts: &mut Counts, image: &Image, found: Result<Latest, Refusal>) {
     match found {
         Ok(found) => {
             for choice in choices_met(image, found) {
-                counts.note(choice.to_string());
+                counts.note(image.form, choice.to_string());
             }
         }
-        Err(refused) => counts.note_refusal("latest", refused),
+        Err(refused) => counts.note_refusal(image.form, "latest", refused),
     }
 }
 

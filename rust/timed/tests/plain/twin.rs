@@ -50,7 +50,7 @@ impl<'a> Twin<'a> {
         way(&mut self.image, sequence);
         self.lent = Areas::new(&self.image, sequence);
         self.story.steps.push(hurt(name));
-        counts.note(hurt(name));
+        counts.note(self.image.form, hurt(name));
     }
 
     /// Makes a call by both, and compares what they answer and every byte.
@@ -62,8 +62,8 @@ impl<'a> Twin<'a> {
         assert_eq!(answer, expected_answer, "the last of {}", self.story);
         self.lent.assert_hold(&self.image, &self.story);
         match expected {
-            Ok(_) => counts.note(accepted(call.name())),
-            Err(refused) => counts.note_refusal(call.name(), refused),
+            Ok(_) => counts.note(self.image.form, accepted(call.name())),
+            Err(refused) => counts.note_refusal(self.image.form, call.name(), refused),
         }
     }
 }
