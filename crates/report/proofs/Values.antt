@@ -6,15 +6,17 @@ use Prim.Native.Nat.{ℕ, _+_, _≤_, _<_}
 use native.Mathlib.Omega.{arith}
 use lib.Dec.{eqb}
 use lib.ListN.{length, getD, drop, length-take}
-use Rattle.words.specs.Word.{part, bytesOf}
+use Rattle.words.specs.Word.{part}
 use Rattle.runs.specs.Run.{repeated, difference}
 use Rattle.runs.specs.declared.run.Difference.{Difference}
 use Rattle.runs.specs.declared.run.Difference.the-variants.{At, Nowhere}
 use Rattle.runs.proofs.Runs.{differs-within}
 use Rattle.words.proofs.Tests.{by-test}
+use Rattle.tags.specs.Format.{wordBytes}
 use Rattle.tags.specs.SizeCode.{decodedOf}
 use Rattle.tags.specs.Tag.{patternOf, isNeither, isFree, isAllocated}
 use Rattle.tags.specs.Verdict.{verdictValue}
+use Rattle.tags.specs.declared.format.Format.{Format}
 use Rattle.tags.specs.declared.size_code.Decoded.{Decoded}
 use Rattle.tags.specs.declared.size_code.Decoded.the-variants as decoded
 use Rattle.tags.specs.declared.tag.Pattern.{Pattern}
@@ -51,38 +53,39 @@ differing P xs ys f v h p = go (difference xs ys) refl
     go (At o) e = h o (differs-within xs ys o e)
     go Nowhere e = p
 
-module _ (c : List ℕ) where
-  free-small : Small c (freeVerdict c)
+zone-small : (c zone : List ℕ) (v : Verdict) → Small c v → Small c (zoneVerdict c zone v)
+unfolding zoneVerdict
+zone-small c zone v p =
+    differing (Small c) (part c (bufferSize c) 4) zone (λ o. Overrun (bufferSize c + o)) v (λ o h. omega (arith, part-most c (bufferSize c) 4)) p
+
+module _ (f : Format) (c : List ℕ) where
+  free-small : Small c (freeVerdict f c)
   unfolding freeVerdict
   free-small =
-      differing (Small c) (part c 0 (bufferSize c)) (repeated (bufferSize c) freeFill) BadFill _ (λ o h. omega (arith, part-most c 0 (bufferSize c)))
-      (differing (Small c) (part c (bufferSize c) 8) (repeated 8 redzone) (λ o. BadRedzone (bufferSize c + o)) Free
+      differing (Small c) (part c 0 (bufferSize c)) (repeated (bufferSize c) (wordBytes f freeFill)) BadFill _
+      (λ o h. omega (arith, part-most c 0 (bufferSize c)))
+      (differing (Small c) (part c (bufferSize c) 8) (repeated 8 (wordBytes f redzone)) (λ o. BadRedzone (bufferSize c + o)) Free
       (λ o h. omega (arith, part-most c (bufferSize c) 8)) (omega arith))
 
-  zone-small : (zone : List ℕ) (v : Verdict) → Small c v → Small c (zoneVerdict c zone v)
-  unfolding zoneVerdict
-  zone-small zone v p =
-      differing (Small c) (part c (bufferSize c) 4) zone (λ o. Overrun (bufferSize c + o)) v (λ o h. omega (arith, part-most c (bufferSize c) 4)) p
-
-  sized-small : (s : ℕ) → s ≤ bufferSize c → Small c (sizedVerdict c s)
+  sized-small : (s : ℕ) → s ≤ bufferSize c → Small c (sizedVerdict f c s)
   unfolding sizedVerdict
   sized-small s h =
       by-test (Small c) (eqb (getD c s 0) guard)
-      (λ _. zone-small (zoneAfter s (bufferSize c)) (Allocated s) (omega arith)) (λ _. omega arith)
+      (λ _. zone-small c (zoneAfter f s (bufferSize c)) (Allocated s) (omega arith)) (λ _. omega arith)
 
-  allocated-small : Small c (allocatedVerdict c)
+  allocated-small : Small c (allocatedVerdict f c)
   unfolding allocatedVerdict
   allocated-small =
-      by-test (Small c) (eqb (r1Of c) redzone)
-      (λ _. zone-small (bytesOf 4 redzone) Whole (omega arith)) (λ _. go (decodedOf (r1Of c) (bufferSize c)) refl)
+      by-test (Small c) (eqb (r1Of f c) redzone)
+      (λ _. zone-small c (wordBytes f redzone) Whole (omega arith)) (λ _. go (decodedOf (r1Of f c) (bufferSize c)) refl)
     where
-      go : (d : Decoded) → decodedOf (r1Of c) (bufferSize c) ≡ d → Small c (byDecoded d (sizedVerdict c) BadSizeCode)
-      go (decoded.Size s) e = sized-small s (decoded-within (r1Of c) (bufferSize c) s e .1)
+      go : (d : Decoded) → decodedOf (r1Of f c) (bufferSize c) ≡ d → Small c (byDecoded d (sizedVerdict f c) BadSizeCode)
+      go (decoded.Size s) e = sized-small s (decoded-within (r1Of f c) (bufferSize c) s e .1)
       go decoded.Bad e = omega arith
 
   -- ---- one buffer
 
-  chained-small : (p : Pattern) (s : Standing) → Small c (chainedVerdict c p s)
+  chained-small : (p : Pattern) (s : Standing) → Small c (chainedVerdict f c p s)
   unfolding chainedVerdict
   chained-small p s =
       by-test (Small c) (isNeither p) (λ _. omega arith)
@@ -91,20 +94,21 @@ module _ (c : List ℕ) where
       (λ _. by-test (Small c) (isAllocated p && s .met) (λ _. omega arith)
       (λ _. by-test (Small c) (isFree p) (λ _. free-small) (λ _. allocated-small)))))
 
-  owned-small : (a : ℕ) (s : Standing) → Small c (ownedVerdict c a s)
+  owned-small : (a : ℕ) (s : Standing) → Small c (ownedVerdict f c a s)
   unfolding ownedVerdict
-  owned-small a s = by-test (Small c) (eqb (tagAt c .t0) a) (λ _. chained-small (patternOf (tagAt c)) s) (λ _. omega arith)
+  owned-small a s = by-test (Small c) (eqb (tagAt f c .t0) a) (λ _. chained-small (patternOf (tagAt f c)) s) (λ _. omega arith)
 
 pub value-small : (m : Image) (i : ℕ) → verdictValue (verdictOf m i) ≤ m .sheet .chunk + 8
 unfolding verdictOf
 value-small m i = go (ownOf m i)
   where
     go : (o : Own)
-        → verdictValue (byOwn o (λ j. ownedVerdict (chunkAt m i) (recordAddress (m .sheet) j) (standingOf (chainOf m) j)) NotOneRecord) ≤ m .sheet .chunk + 8
+        → verdictValue (byOwn o (λ j. ownedVerdict (m .sheet .format) (chunkAt m i) (recordAddress (m .sheet) j) (standingOf (chainOf m) j)) NotOneRecord)
+        ≤ m .sheet .chunk + 8
     go (One j) =
         omega (
           arith,
-          owned-small (chunkAt m i) (recordAddress (m .sheet) j) (standingOf (chainOf m) j),
+          owned-small (m .sheet .format) (chunkAt m i) (recordAddress (m .sheet) j) (standingOf (chainOf m) j),
           part-most (m .heap) (chunkPlace (m .sheet) i) (m .sheet .chunk),
         )
     go NotOne = omega arith
