@@ -12,11 +12,13 @@ use Rattle.runs.specs.declared.run.Difference.{Difference}
 use Rattle.runs.specs.declared.run.Difference.the-variants.{At, Nowhere}
 use Rattle.runs.proofs.Runs.{differs-within}
 use Rattle.words.proofs.Tests.{by-test}
+use Rattle.tags.specs.Format.{wordBytes}
 use Rattle.tags.specs.SizeCode.{decodedOf}
 use Rattle.tags.specs.Format.{wordBytes}
 use Rattle.tags.specs.declared.format.Format.{Format}
 use Rattle.tags.specs.Tag.{patternOf, isNeither, isFree, isAllocated}
 use Rattle.tags.specs.Verdict.{verdictValue}
+use Rattle.tags.specs.declared.format.Format.{Format}
 use Rattle.tags.specs.declared.size_code.Decoded.{Decoded}
 use Rattle.tags.specs.declared.size_code.Decoded.the-variants as decoded
 use Rattle.tags.specs.declared.tag.Pattern.{Pattern}
