@@ -14,8 +14,6 @@ use Rattle.runs.proofs.Runs.{differs-within}
 use Rattle.words.proofs.Tests.{by-test}
 use Rattle.tags.specs.Format.{wordBytes}
 use Rattle.tags.specs.SizeCode.{decodedOf}
-use Rattle.tags.specs.Format.{wordBytes}
-use Rattle.tags.specs.declared.format.Format.{Format}
 use Rattle.tags.specs.Tag.{patternOf, isNeither, isFree, isAllocated}
 use Rattle.tags.specs.Verdict.{verdictValue}
 use Rattle.tags.specs.declared.format.Format.{Format}
@@ -55,6 +53,11 @@ differing P xs ys f v h p = go (difference xs ys) refl
     go (At o) e = h o (differs-within xs ys o e)
     go Nowhere e = p
 
+zone-small : (c zone : List ℕ) (v : Verdict) → Small c v → Small c (zoneVerdict c zone v)
+unfolding zoneVerdict
+zone-small c zone v p =
+    differing (Small c) (part c (bufferSize c) 4) zone (λ o. Overrun (bufferSize c + o)) v (λ o h. omega (arith, part-most c (bufferSize c) 4)) p
+
 module _ (f : Format) (c : List ℕ) where
   free-small : Small c (freeVerdict f c)
   unfolding freeVerdict
@@ -64,22 +67,17 @@ module _ (f : Format) (c : List ℕ) where
       (differing (Small c) (part c (bufferSize c) 8) (repeated 8 (wordBytes f redzone)) (λ o. BadRedzone (bufferSize c + o)) Free
       (λ o h. omega (arith, part-most c (bufferSize c) 8)) (omega arith))
 
-  zone-small : (zone : List ℕ) (v : Verdict) → Small c v → Small c (zoneVerdict c zone v)
-  unfolding zoneVerdict
-  zone-small zone v p =
-      differing (Small c) (part c (bufferSize c) 4) zone (λ o. Overrun (bufferSize c + o)) v (λ o h. omega (arith, part-most c (bufferSize c) 4)) p
-
   sized-small : (s : ℕ) → s ≤ bufferSize c → Small c (sizedVerdict f c s)
   unfolding sizedVerdict
   sized-small s h =
       by-test (Small c) (eqb (getD c s 0) guard)
-      (λ _. zone-small (zoneAfter f s (bufferSize c)) (Allocated s) (omega arith)) (λ _. omega arith)
+      (λ _. zone-small c (zoneAfter f s (bufferSize c)) (Allocated s) (omega arith)) (λ _. omega arith)
 
   allocated-small : Small c (allocatedVerdict f c)
   unfolding allocatedVerdict
   allocated-small =
       by-test (Small c) (eqb (r1Of f c) redzone)
-      (λ _. zone-small (wordBytes f redzone) Whole (omega arith)) (λ _. go (decodedOf (r1Of f c) (bufferSize c)) refl)
+      (λ _. zone-small c (wordBytes f redzone) Whole (omega arith)) (λ _. go (decodedOf (r1Of f c) (bufferSize c)) refl)
     where
       go : (d : Decoded) → decodedOf (r1Of f c) (bufferSize c) ≡ d → Small c (byDecoded d (sizedVerdict f c) BadSizeCode)
       go (decoded.Size s) e = sized-small s (decoded-within (r1Of f c) (bufferSize c) s e .1)
