@@ -7,7 +7,7 @@ ghost use Rattle.words.specs.Native.{lowBytes};
 ghost use Rattle.tags.specs.Verdict.{toldOf};
 ghost use Rattle.tags.specs.declared.verdict.Verdict.{Verdict};
 ghost use Rattle.chunks.specs.Chunk.{ChunkLength, bufferSize};
-ghost use Rattle.chunks.specs.Judge.{zoneVerdict, sizedVerdict, freeVerdict, allocatedVerdict};
+ghost use Rattle.chunks.specs.Judge.{zoneVerdict, zoneAfter, sizedVerdict, freeVerdict, allocatedVerdict};
 use crate::chunk;
 use runs::run;
 use runs::run::Difference;
@@ -52,8 +52,19 @@ fn judge_zone(chunk: &[u8], zone: u32, sound: Told) -> Told
     }
 }
 
-// The verdict on a chunk of the allocated pattern whose R1 is the code of s bytes. After a grant of the whole buffer's size the
-// guard byte stands on R0's first byte.
+// R0 after a grant of s bytes: the guard is its first byte where s is the buffer's size.
+fn zone_after(f: Format, s: usize, size: usize) -> u32
+    ensures { λ r. ⌜ lowBytes 4 r ≡ zoneAfter f s size ⌝ }
+{
+    let o = f.order;
+    let zone = word::turn4(o, chunk::REDZONE);
+    if s == size {
+        return native::with_first(zone, chunk::GUARD);
+    }
+    zone
+}
+
+// The verdict on a chunk of the allocated pattern whose R1 is the code of s bytes.
 fn judge_sized(f: Format, chunk: &[u8], s: u32) -> Told
     requires { ⌜ ChunkLength (length (now chunk)) ⌝ }
     requires { ⌜ s ≤ bufferSize (now chunk) ⌝ }
@@ -63,12 +74,7 @@ fn judge_sized(f: Format, chunk: &[u8], s: u32) -> Told
     if chunk[i] != chunk::GUARD {
         return verdict::tell(Verdict::Overrun(s));
     }
-    let o = f.order;
-    let zone = word::turn4(o, chunk::REDZONE);
-    if i == chunk.len() - 16 {
-        let guarded = native::with_first(zone, chunk::GUARD);
-        return judge_zone(chunk, guarded, verdict::tell(Verdict::Allocated(s)));
-    }
+    let zone = zone_after(f, i, chunk.len() - 16);
     judge_zone(chunk, zone, verdict::tell(Verdict::Allocated(s)))
 }
 

@@ -1,11 +1,11 @@
 -- A sheet that is written field by field, and read back; another head is another sheet. Assumes nothing.
 use mathlib.Core.Path.{_≡_, refl, sym, ap, _∙_}
-use mathlib.Core.Logic.{_≢_}
-use mathlib.Core.Bool.{Bool, true, false, _&&_, _||_, and-assoc, and-true as and-right, and-eq-true-iff, or-true, or-false}
+use mathlib.Core.Bool.{Bool, true, false, _&&_, _||_, and-assoc, and-true as and-right, and-eq-true-iff, or-true}
 use mathlib.Core.List.{List, [], _∷_, _++_, append-assoc, append-nil}
 use Prim.Native.Nat.{ℕ, zero, suc, _+_, _^_, _≤_, _<_}
 use native.Mathlib.Omega.{arith}
 use borrow.Author.Tests.{eq-eqb, ne-eqb, eqb-true, le-ltb, le-leb}
+use lib.Dec.{eqb}
 use lib.ListN.{length, length-append, getD, set}
 use lib.Seq.{sets}
 use Rattle.words.specs.Word.{part, number, numberAt}
@@ -14,7 +14,7 @@ use Rattle.words.specs.declared.word.Order.the-variants.{HighFirst, LowFirst}
 use Rattle.tags.specs.Format.{formatOf}
 use Rattle.words.proofs.Numbers.{length-bytesOf, number-back}
 use Rattle.words.proofs.Parts.{part-front, part-right, sets-mid, sets-right, sets-next, sets-three, sets-whole}
-use Rattle.sheet.specs.Fields.{Field, shortFields, fields, fieldLength, lengthTo, fieldIs, fieldsFrom, isShort, isLong, shaped, sheetOf}
+use Rattle.sheet.specs.Fields.{Field, shortFields, fields, fieldLength, lengthTo, fieldIs, fieldsFrom, isShort, isLong, shaped, endsRight, sheetOf}
 use Rattle.sheet.specs.Fields.{fieldBytes, field, fieldsBytes, bodiesOf, sheetBytes, shortLength, sheetLength, bodyAt, withHead}
 use Rattle.sheet.specs.Fields.{orderNumber, orderOf, orderLawful, numberOf}
 use Rattle.geometry.specs.Sheet.{headed, heapLength, recordsLength}
@@ -30,22 +30,24 @@ pub eight : {a b c d e f g h a' b' c' d' e' f' g' h' : Bool} → a ≡ a' → b 
     → a && b && c && d && e && f && g && h ≡ a' && (b' && (c' && (d' && (e' && (f' && (g' && (h' && true)))))))
 eight ea eb ec ed ee ef eg eh = rw (ea, eb, ec, ed, ee, ef, eg, eh) (simp (and-assoc, and-right))
 
--- and a ninth behind them
-pub nine : (s : List ℕ) {a b : Bool} → a ≡ fieldsFrom shortFields 0 s → b ≡ fieldIs s shortLength 9 1 → a && b ≡ fieldsFrom fields 0 s
-nine s ea eb = rw (ea, eb) (simp (and-assoc, and-right))
+-- a sheet has the eight fields, and behind them what one of the two forms has
+either : (a b p q : Bool) → a && (p || (q && b)) ≡ (p && a) || (q && (a && b))
+either true b true q = refl
+either true b false q = refl
+either false b true true = refl
+either false b true false = refl
+either false b false true = refl
+either false b false false = refl
 
--- a sheet has the length of the short form, of the long form, or neither
-pub shaped-short : (s : List ℕ) → length s ≡ shortLength → fieldsFrom shortFields 0 s ≡ shaped s
-unfolding shaped isShort isLong
-shaped-short s e = rw (eq-eqb _ _ e, ne-eqb (length s) sheetLength (λ q. omega arith), or-false (fieldsFrom shortFields 0 s))
+pub shaped-both : (s : List ℕ) {a b : Bool} → a ≡ fieldsFrom shortFields 0 s → b ≡ endsRight s → a && b ≡ shaped s
+unfolding shaped isShort isLong endsRight
+shaped-both s ea eb =
+    let nine : fieldsFrom fields 0 s ≡ fieldsFrom shortFields 0 s && fieldIs s shortLength 9 1 = simp (and-assoc, and-right) in
+    rw (ea, eb, nine) (either (fieldsFrom shortFields 0 s) (fieldIs s shortLength 9 1) (eqb (length s) shortLength) (eqb (length s) sheetLength))
 
-pub shaped-nine : (s : List ℕ) → length s ≡ sheetLength → fieldsFrom fields 0 s ≡ shaped s
+pub shaped-less : (s : List ℕ) → length s < shortLength → false ≡ shaped s
 unfolding shaped isShort isLong
-shaped-nine s e = rw (ne-eqb (length s) shortLength (λ q. omega arith), eq-eqb _ _ e)
-
-pub shaped-neither : (s : List ℕ) → length s ≢ shortLength → length s ≢ sheetLength → false ≡ shaped s
-unfolding shaped isShort isLong
-shaped-neither s e q = rw (ne-eqb (length s) shortLength e, ne-eqb (length s) sheetLength q)
+shaped-less s h = rw (ne-eqb (length s) shortLength (λ q. omega arith), ne-eqb (length s) sheetLength (λ q. omega arith))
 
 -- a sheet of either form has the eight fields of the short one
 pub shaped-long : (s : List ℕ) → shaped s ≡ true → shortLength ≤ length s

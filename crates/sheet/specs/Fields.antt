@@ -87,6 +87,10 @@ isLong s = eqb (length s) sheetLength && fieldsFrom fields 0 s
 unfoldable pub shaped : List ℕ → Bool
 shaped s = isShort s || isLong s
 
+-- of the code's own steps, in no rule: behind the eight fields of both forms stands nothing, or the ninth
+unfoldable pub endsRight : List ℕ → Bool
+endsRight s = eqb (length s) shortLength || (eqb (length s) sheetLength && fieldIs s shortLength 9 1)
+
 -- ---- the numbers
 
 -- S10 (the number of the order): the body of tag 9; a sheet without it means 0

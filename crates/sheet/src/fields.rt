@@ -5,7 +5,7 @@ ghost use mathlib.Core.List.{_++_};
 ghost use Prim.Native.Nat.{_+_, _≤_};
 ghost use lib.ListN.{length};
 ghost use lib.Seq.{sets};
-ghost use Rattle.sheet.specs.Fields.{fieldNumber, fieldIs, fieldsFrom, shortFields, fields, shaped, orderNumber, orderOf, numberOf, sheetOf, field, sheetBytes, shortLength, sheetLength, withHead};
+ghost use Rattle.sheet.specs.Fields.{fieldNumber, fieldIs, fieldsFrom, shortFields, shaped, endsRight, orderNumber, orderOf, numberOf, sheetOf, field, sheetBytes, shortLength, sheetLength, withHead};
 ghost use Rattle.geometry.specs.Limits.{Lawful};
 use geometry::sheet::Sheet;
 use tags::format::Format;
@@ -69,25 +69,28 @@ fn has_eight(s: &[u8]) -> bool
         & field_is(s, FLAGS, 8, 2)
 }
 
-// Whether a sheet of the long form's length has its nine fields.
-fn has_nine(s: &[u8]) -> bool
-    requires { ⌜ sheetLength ≤ length (now s) ⌝ }
-    ensures { λ r. ⌜ r ≡ fieldsFrom fields 0 (now (s .entry)) ⌝ }
+// Whether nothing stands behind the eight fields, or the ninth.
+fn ends_right(s: &[u8]) -> bool
+    requires { ⌜ shortLength ≤ length (now s) ⌝ }
+    ensures { λ r. ⌜ r ≡ endsRight (now (s .entry)) ⌝ }
 {
-    has_eight(s) & field_is(s, ORDER, 9, 1)
+    if s.len() == SHORT_FORM {
+        return true;
+    }
+    if s.len() == LENGTH {
+        return field_is(s, ORDER, 9, 1);
+    }
+    false
 }
 
-// Whether the sheet has the length of one of the two forms, and its stated tags and lengths.
+// Whether the sheet has one of the two forms: its length, and its stated tags and lengths.
 pub(crate) fn is_shaped(s: &[u8]) -> bool
     ensures { λ r. ⌜ r ≡ shaped (now (s .entry)) ⌝ }
 {
-    if s.len() == SHORT_FORM {
-        return has_eight(s);
+    if s.len() < SHORT_FORM {
+        return false;
     }
-    if s.len() == LENGTH {
-        return has_nine(s);
-    }
-    false
+    has_eight(s) & ends_right(s)
 }
 
 // The body, of two bytes, of the field at an offset.

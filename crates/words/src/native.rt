@@ -72,18 +72,34 @@ pub(crate) fn load2(s: &[u8], at: usize) -> u16
     join2(load1(s, at), load1(s, at + 1))
 }
 
-pub fn load4(s: &[u8], at: usize) -> u32
+fn halves4(s: &[u8], at: usize) -> u32
     requires { ⌜ at + 4 ≤ length (now s) ⌝ }
     ensures { λ r. ⌜ lowBytes 4 r ≡ part (now (s .entry)) at 4 ⌝ }
 {
     join4(load2(s, at), load2(s, at + 2))
 }
 
-pub fn load8(s: &[u8], at: usize) -> u64
+// This and `load8` are one function more than their halves ask for: the compiler makes one load of two only in a caller of the function that
+// joins them, and there only where the number is used once, so that it has to be a caller that does nothing else.
+pub fn load4(s: &[u8], at: usize) -> u32
+    requires { ⌜ at + 4 ≤ length (now s) ⌝ }
+    ensures { λ r. ⌜ lowBytes 4 r ≡ part (now (s .entry)) at 4 ⌝ }
+{
+    halves4(s, at)
+}
+
+fn halves8(s: &[u8], at: usize) -> u64
     requires { ⌜ at + 8 ≤ length (now s) ⌝ }
     ensures { λ r. ⌜ lowBytes 8 r ≡ part (now (s .entry)) at 8 ⌝ }
 {
     join8(load4(s, at), load4(s, at + 4))
+}
+
+pub fn load8(s: &[u8], at: usize) -> u64
+    requires { ⌜ at + 8 ≤ length (now s) ⌝ }
+    ensures { λ r. ⌜ lowBytes 8 r ≡ part (now (s .entry)) at 8 ⌝ }
+{
+    halves8(s, at)
 }
 
 // Writes the bytes of a number from an offset on.

@@ -1,4 +1,4 @@
--- The guard byte comes first, then R0, on whose first byte the guard stands where s is the buffer's size. Assumes nothing.
+-- The guard byte comes first, then R0 as the grant left it. Assumes nothing.
 use borrow.Author.Tests.{eq-eqb, ne-eqb}
 use borrow.Author.Needs.{needs}
 use Rattle.tags.specs.declared.verdict.Verdict.the-variants.{Allocated}
@@ -9,19 +9,8 @@ use Rattle.chunks.proofs.judge.judge_sized.Tie as tie
 returns-2 : tie.Need-returns-2
 unfolding sizedVerdict
 returns-2 c =
-    let w = c .before .before in
-    let i = w .before in
-    let t = i .before in
-    rw (eq-eqb _ _ (t .before .if1 .left), eq-eqb _ _ (i .if2 .taken), ← t .turn4 .ensures, ← w .with-first .ensures)
-    (c .judge-zone .ensures (Allocated _) (c .before .tell2 .ensures))
-
-returns-3 : tie.Need-returns-3
-unfolding sizedVerdict
-returns-3 c =
-    let i = c .before .before in
-    let t = i .before in
-    rw (eq-eqb _ _ (t .before .if1 .left), ne-eqb _ _ (i .if2 .left), ← t .turn4 .ensures)
-    (c .judge-zone2 .ensures (Allocated _) (c .before .tell3 .ensures))
+    let z = c .before .before in
+    rw (eq-eqb _ _ (z .before .if1 .left), ← z .zone-after .ensures) (c .judge-zone .ensures (Allocated _) (c .before .tell2 .ensures))
 
 pub judge-sized-spec : {M : Type 1} → statement M
 unfolding sizedVerdict
@@ -30,5 +19,4 @@ judge-sized-spec =
     (tie.spec
     (λ c. search needs) (λ c κs. search needs)
     (λ c. rw (ne-eqb _ _ (c .before .if1 .taken)) (c .tell .ensures))
-    (λ c κs. search needs) (λ c. search needs) (λ c κs. search needs) (λ c κs. search needs) (λ c κs. search needs) returns-2
-    (λ c κs. search needs) (λ c κs. search needs) returns-3)
+    (λ c. search needs) (λ c κs. search needs) (λ c κs. search needs) (λ c κs. search needs) returns-2)
