@@ -2,18 +2,22 @@
 use mathlib.Core.Path.{_≡_, refl, sym, ap, _∙_}
 use mathlib.Core.Bool.{Bool, true, false, _&&_, _||_, and-assoc, and-true as and-right, and-eq-true-iff, or-true}
 use mathlib.Core.List.{List, [], _∷_, _++_, append-assoc, append-nil}
-use Prim.Native.Nat.{ℕ, zero, suc, _+_, _^_, _≤_, _<_}
+use Prim.Native.Nat.{ℕ, zero, suc, _+_, _*_, _/_, _%_, _^_, _≤_, _<_}
+use native.Mathlib.Nat.{add-zero, mod-lt}
+use native.Mathlib.Decide.{ℕ-discrete}
 use native.Mathlib.Omega.{arith}
 use borrow.Author.Tests.{eq-eqb, ne-eqb, eqb-true, le-ltb, le-leb}
-use lib.Dec.{eqb}
+use lib.Arith.{digits-mod, mod-mul}
+use lib.Dec.{eqb, lit<}
 use lib.ListN.{length, length-append, getD, set}
 use lib.Seq.{sets}
-use Rattle.words.specs.Word.{part, number, numberAt}
+use Rattle.words.specs.Word.{part, turned, number, numberAt}
+use Rattle.words.specs.Native.{lowNumber, lowBytes}
 use Rattle.words.specs.declared.word.Order.{Order}
 use Rattle.words.specs.declared.word.Order.the-variants.{HighFirst, LowFirst}
 use Rattle.tags.specs.Format.{formatOf}
 use Rattle.words.proofs.Numbers.{length-bytesOf, number-back}
-use Rattle.words.proofs.Parts.{part-front, part-right, sets-mid, sets-right, sets-next, sets-three, sets-whole}
+use Rattle.words.proofs.Parts.{part-part, part-front, part-right, sets-mid, sets-right, sets-next, sets-three, sets-whole}
 use Rattle.sheet.specs.Fields.{Field, shortFields, fields, fieldLength, lengthTo, fieldIs, fieldsFrom, isShort, isLong, shaped, endsRight, sheetOf}
 use Rattle.sheet.specs.Fields.{fieldBytes, field, fieldsBytes, bodiesOf, sheetBytes, shortLength, sheetLength, bodyAt, withHead}
 use Rattle.sheet.specs.Fields.{orderNumber, orderOf, orderLawful, numberOf}
@@ -24,6 +28,42 @@ use Rattle.geometry.specs.declared.sheet.Sheet.{Sheet}
 use Rattle.sheet.specs.declared.opening.Opened.the-variants as opened
 
 -- ---- tested
+
+-- the first three bytes of a number
+digits : (x : ℕ) → x % 16777216 ≡ x % 256 + 256 * (x / 256 % 256) + 65536 * (x / 256 / 256 % 256)
+digits x =
+    let low = mod-mul x {m = 65536} {c = 256} (lit< tt) (lit< tt) in
+    let high = mod-mul (x / 256) {m = 256} {c = 256} (lit< tt) (lit< tt) in
+    omega (arith, low, high)
+
+-- equal numbers have equal lowest bytes
+lowest : (a b k m : ℕ) → a < 256 → b < 256 → k * 256 + a ≡ m * 256 + b → a ≡ b
+lowest a b k m ha hb e = sym (digits-mod k ha) ∙ ap (λ (x : ℕ). x % 256) e ∙ digits-mod m hb
+
+-- they are a tag and a length exactly where the number is made of these
+three-same : (n a b c tag len : ℕ) → n ≡ a + 256 * b + 65536 * c → a < 256 → b < 256 → c < 256 → tag < 256 → len < 256
+    → eqb n (tag + 65536 * len) ≡ eqb a tag && eqb (c + 256 * b) len
+three-same n a b c tag len e ha hb hc ht hl = go (ℕ-discrete a tag) (ℕ-discrete (c + 256 * b) len)
+  where
+    go : Dec (a ≡ tag) → Dec (c + 256 * b ≡ len) → eqb n (tag + 65536 * len) ≡ eqb a tag && eqb (c + 256 * b) len
+    go (yes p) (yes q) = rw (eq-eqb n (tag + 65536 * len) (omega arith), eq-eqb a tag p, eq-eqb (c + 256 * b) len q)
+    go (yes p) (no q) = rw (ne-eqb n (tag + 65536 * len) (λ f. q (omega (arith, lowest b 0 c len hb (lit< tt) (omega arith)))), eq-eqb a tag p, ne-eqb (c + 256 * b) len q)
+    go (no p) d = rw (ne-eqb n (tag + 65536 * len) (λ f. p (lowest a tag (c * 256 + b) (len * 256) ha ht (omega arith))), ne-eqb a tag p)
+
+-- the tag and the length of a field, by its first four bytes
+pub head-is : (l : List ℕ) (at x tag len : ℕ) → lowBytes 4 x ≡ part l at 4 → tag < 256 → len < 256
+    → eqb (x % 16777216) (tag + 65536 * len) ≡ fieldIs l at tag len
+unfolding fieldIs numberAt number turned lowNumber lowBytes part
+head-is l at x tag len e ht hl =
+    let p = part-part l at 4 0 1 (omega arith) in
+    let q = part-part l at 4 1 2 (omega arith) in
+    let one : numberAt HighFirst 1 l at ≡ x % 256
+    = ap (λ (k : ℕ). numberAt HighFirst 1 l k) (sym (add-zero at)) ∙ ap (number HighFirst) (sym p ∙ ap (λ (m : List ℕ). part m 0 1) (sym e)) ∙ omega arith in
+    let two : numberAt HighFirst 2 l (at + 1) ≡ x / 256 / 256 % 256 + 256 * (x / 256 % 256)
+    = ap (number HighFirst) (sym q ∙ ap (λ (m : List ℕ). part m 1 2) (sym e)) ∙ omega arith in
+    rw (one, two)
+    (three-same (x % 16777216) (x % 256) (x / 256 % 256) (x / 256 / 256 % 256) tag len (digits x)
+    (mod-lt x (lit< tt)) (mod-lt (x / 256) (lit< tt)) (mod-lt (x / 256 / 256) (lit< tt)) ht hl)
 
 -- eight tests in a row, as the code joins them and as the rule does
 pub eight : {a b c d e f g h a' b' c' d' e' f' g' h' : Bool} → a ≡ a' → b ≡ b' → c ≡ c' → d ≡ d' → e ≡ e' → f ≡ f' → g ≡ g' → h ≡ h'

@@ -9,6 +9,7 @@ ghost use Rattle.sheet.specs.Fields.{fieldNumber, fieldIs, fieldsFrom, s
 ghost use Rattle.geometry.specs.Limits.{Lawful};
 use geometry::sheet::Sheet;
 use tags::format::Format;
+use words::native;
 use words::word;
 use words::word::Order;
 
@@ -43,15 +44,13 @@ const SHORT_FORM: usize = ORDER;
 
 pub const LENGTH: usize = ORDER + BEFORE + 1;
 
-// Whether the field at an offset has a tag and a length.
-fn field_is(s: &[u8], at: usize, tag: u8, len: u16) -> bool
-    requires { ⌜ at + 3 ≤ length (now s) ⌝ }
+// Whether the field at an offset has a tag and a length. Its first three bytes are compared at once, as the machine has them: the tag, then
+// the length's high byte, which is 0, and its low byte.
+fn field_is(s: &[u8], at: usize, tag: u8, len: u8) -> bool
+    requires { ⌜ at + 4 ≤ length (now s) ⌝ }
     ensures { λ r. ⌜ r ≡ fieldIs (now (s .entry)) at tag len ⌝ }
 {
-    if word::read_u8(s, at) != tag {
-        return false;
-    }
-    word::read_u16(s, at + 1) == len
+    native::load4(s, at) % 16777216 == (tag as u32) + 65536 * (len as u32)
 }
 
 // Whether the first eight fields have the stated tags and lengths.
