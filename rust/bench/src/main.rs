@@ -6,6 +6,7 @@ mod fill;
 mod growth;
 mod limits;
 mod orders;
+mod placed;
 mod plain;
 mod reader;
 mod requirement;
@@ -50,7 +51,8 @@ const PLAIN: &str = "
 The same calls as a C programmer would write them in place of the library's
 (`rust/timed/plain`, compiled by gcc with -O3). A free buffer is compared with a page of the
 free fill by `memcmp`, and a buffer is filled from such a page by `memcpy`. Answers, rows
-and areas are the same.
+and areas are the same. Plain C has a loop for each order, compiled apart; the limits are
+for the high byte first.
 ";
 
 const FILL: &str = "
@@ -62,6 +64,12 @@ other. Many calls are made at a time: to reach a single one takes about as long 
 shortest do.
 
 Nothing differs; `memcmp` is with an equal copy:
+";
+
+const PAGED: &str = "
+The areas of inspect begin 16 bytes behind a page there, as malloc puts large ones. Where
+they begin a page, `memcmp` of long buffers, 32 bytes at a time, takes a fifth less; the
+library, 16 bytes at a time, takes the same. For this there is no requirement:
 ";
 
 const EARLY: &str = "
@@ -115,6 +123,8 @@ fn main() -> ExitCode {
     requirements.push(orders::time_orders());
     println!("{PLAIN}");
     requirements.extend(plain::time_plain());
+    println!("{PAGED}");
+    plain::time_paged();
     println!("{FILL}");
     requirements.extend(fill::time_equal());
     println!("{EARLY}");

@@ -6,7 +6,7 @@ use bench::images::{all_free, half_allocated, hurt, logged, Make, LARGEST, MOST_
 use differential::{Form, Image, LONG_FORMS};
 
 use crate::calls::{pair_by_library, THREAD, UPTIME};
-use crate::reader::inspect_by_library;
+use crate::placed::Lent;
 use crate::requirement::Requirement;
 use crate::timing::{race, Times};
 
@@ -22,12 +22,31 @@ pub const HEAD: &str = "\
 | call | Rattle | plain C | ratio | middle half of ratios |
 |---|--:|--:|--:|--:|";
 
-/// Times the calls by the library and in plain C, on images of both orders.
+/// Where malloc puts a large area, behind a page's start.
+const BEHIND: usize = 16;
+
+/// Times the calls by the library and in plain C, on images of both orders. There are
+/// limits for those with the high byte first.
 pub fn time_plain() -> Vec<Requirement> {
     println!("{HEAD}");
     let calls = [time_inspect, time_latest, time_pairs];
-    let requirements = calls.into_iter().flat_map(|time| LONG_FORMS.map(time));
-    requirements.collect()
+    let [high, _low] = LONG_FORMS.map(|form| calls.map(|time| time(form)));
+    Vec::from(high)
+}
+
+/// Times inspect of long buffers where the areas begin pages.
+pub fn time_paged() {
+    println!("{HEAD}");
+    let (size, count) = LARGEST[0];
+    for (kind, make) in KINDS {
+        let image = make(Form::High, size, count);
+        let [rattle, plain] = race_inspect(&Lent::new(&image, 0), count);
+        print_row(
+            &format!("inspect, {size} x {count}, {kind}"),
+            &rattle,
+            &plain,
+        );
+    }
 }
 
 /// A call by its name, and by the order of its images where that is not the older one.
@@ -45,7 +64,7 @@ fn time_inspect(form: Form) -> Requirement {
         for (kind, make) in KINDS {
             let image = make(form, size, count);
             let faults = faults_found(&image);
-            let [rattle, plain] = race_inspect(&image);
+            let [rattle, plain] = race_inspect(&Lent::new(&image, BEHIND), count);
             let case = format!("{call}, {size} x {count}, {kind}");
             let row = format!("{case}, {faults} faults");
             requirement.add(&case, print_row(&row, &rattle, &plain));
@@ -66,12 +85,19 @@ fn print_row(row: &str, rattle: &Times, plain: &Times) -> f64 {
     ratio
 }
 
-fn race_inspect(image: &Image) -> [Times; 2] {
-    let mut rows = vec![0; 3 * image.shape.count];
+fn race_inspect(lent: &Lent, count: usize) -> [Times; 2] {
+    let mut rows = vec![0; 3 * count];
     let mut plain_rows = rows.clone();
+    let (sheet, heap, records) = (lent.sheet.part(), lent.heap.part(), lent.records.part());
     race([
-        Box::new(|| inspect_by_library(black_box(image), black_box(&mut rows))),
-        Box::new(|| inspect_by_plain(black_box(image), black_box(&mut plain_rows))),
+        Box::new(|| {
+            let rows = black_box(&mut rows);
+            check(combgallop::inspect_answer(sheet, black_box(heap), records, rows).0);
+        }),
+        Box::new(|| {
+            let rows = black_box(&mut plain_rows);
+            check(timed::plain_inspect(sheet, black_box(heap), records, rows));
+        }),
     ])
 }
 
@@ -86,11 +112,6 @@ fn faults_found(image: &Image) -> usize {
     assert_eq!(answer.0, plain_answer, "inspect");
     assert_eq!(rows, plain_rows, "inspect");
     rows.chunks_exact(3).filter(|row| row[1] >= 20).count()
-}
-
-fn inspect_by_plain(image: &Image, rows: &mut [u32]) {
-    let answer = timed::plain_inspect(&image.sheet, &image.heap, &image.records, rows);
-    check(answer);
 }
 
 /// Fails where a call was refused.
