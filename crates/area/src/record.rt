@@ -1,5 +1,5 @@
-// The format of a record: next at 0, the buffer's address at 4, the slab at 8, the cache at 12, the stamp, one number of eight bytes,
-// at 16, the thread at 24; the rest is not read.
+// The format of a record: next at 0, the buffer's address at 4, the slab at 8, the cache at 12, the stamp, one number of eight
+// bytes, at 16, the thread at 24; the rest is not read.
 ghost use mathlib.Core.Path.{_≡_};
 ghost use Prim.Native.Nat.{_+_, _-_, _*_, _≤_};
 ghost use lib.ListN.{length};

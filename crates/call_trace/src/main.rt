@@ -1,5 +1,6 @@
-// The calls, traced: a heap of three buffers of 24 bytes is laid out and used, refused, asked and hurt, first with the high byte first and
-// then with the low byte first, and each call's answer is a line on standard output. What it writes is held to the text that the second program makes of the same calls.
+// The calls, traced: a heap of three buffers of 24 bytes is laid out and used, refused, asked and hurt, first with the high
+// byte first and then with the low byte first, and each call's answer is a line on standard output. What it writes is held to
+// the text that the second program makes of the same calls.
 //
 // A line is the call's name and its answer, words and decimal numbers behind one space each, and a line feed:
 //

@@ -9,8 +9,8 @@ use area::place::Place;
 use area::record;
 use tags::format::Format;
 
-// The numbers of a sheet. `format` is how the image writes its words, `size` and `chunk` are the lengths of a buffer and of its chunk,
-// `count` is the number of buffers and of records, `head` the chain's first word.
+// The numbers of a sheet. `format` is how the image writes its words, `size` and `chunk` are the lengths of a buffer and of its
+// chunk, `count` is the number of buffers and of records, `head` the chain's first word.
 pub struct Sheet {
     pub format: Format,
     pub cache: u32,
@@ -107,8 +107,8 @@ impl Sheet {
         place::find(self.heap_base, self.chunk, self.count, word)
     }
 
-    // The same for the word of record j. Buffers mostly stand in the order of their records, up or down, so these two are tried first:
-    // then a comparison tells it, and no division.
+    // The same for the word of record j. Buffers mostly stand in the order of their records, up or down, so these two are tried
+    // first: then a comparison tells it, and no division.
     pub fn find_paired(self, word: u32, j: usize) -> Place
         requires { ⌜ Lawful self ⌝ }
         requires { ⌜ j < self .count ⌝ }

@@ -1,6 +1,6 @@
 // The report program: one byte, the sheet's length, then sheet, heap, records and log from standard input to the report, or to
-// `refused N`, on standard output. It reads no more than decides the answer: a sheet that is refused ends it, and of the log one byte
-// more than is lawful.
+// `refused N`, on standard output. It reads no more than decides the answer: a sheet that is refused ends it, and of the log
+// one byte more than is lawful.
 ghost use mathlib.Core.Path.{_≡_};
 ghost use Prim.Native.Nat.{_≤_};
 ghost use lib.ListN.{length};

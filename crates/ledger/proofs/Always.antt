@@ -107,7 +107,8 @@ module _ (g : Sheet) (laid : Laid g) where
           })
       go j h o e false s = rw (free-other g laid (f .invariant) j h o e q t s) f
 
-  store-keeps : (w : RunState) (address offset : ℕ) (bytes : List ℕ) → RunInvariant g w → RunInvariant g (step (g .format) (g .size) (store address offset bytes) w)
+  store-keeps : (w : RunState) (address offset : ℕ) (bytes : List ℕ) → RunInvariant g w
+      → RunInvariant g (step (g .format) (g .size) (store address offset bytes) w)
   store-keeps w address offset bytes f =
       by-address (w .ledger .out) (λ x. RunInvariant g (step (g .format) (g .size) (store x offset bytes) w))
       (λ x e. rw (store-stray g laid (f .invariant) x e offset bytes) f)

@@ -64,7 +64,8 @@ module _ (g : Sheet) (laid : Laid g) where
   buffer-place j h w e = place-at (g .«heap_base») (g .chunk) (g .count) w j (chunk-some g laid) h e
 
   module _ {head : ℕ} {a : Areas} {out : ℕ → Option Entry} {chain : List ℕ} (v : Invariant g head a out chain) where
-    pub chunk-is : (j : ℕ) → j < g .count → (o : Option Entry) → out (bufferAddress g j) ≡ o → chunkIn g (a .heap) j ≡ chunkFor (g .format) (g .size) (recordAddress g j) o
+    pub chunk-is : (j : ℕ) → j < g .count → (o : Option Entry) → out (bufferAddress g j) ≡ o
+        → chunkIn g (a .heap) j ≡ chunkFor (g .format) (g .size) (recordAddress g j) o
     chunk-is j h o e = v .chunks j h ∙ ap (chunkFor (g .format) (g .size) (recordAddress g j)) e
 
     pub entry-is : (j : ℕ) → j < g .count → (o : Option Entry) → out (bufferAddress g j) ≡ o → LawfulEntry (g .size) o

@@ -52,7 +52,8 @@ holds f (aged time first second age₁ age₂) e =
     let two = and-eq-true-iff _ _ .0 (one .1) in
     let three = and-eq-true-iff _ _ .0 (two .1) in
     (eqb-true (ageOf 32 time first) age₁ (one .0), eqb-true (ageOf 32 time second) age₂ (two .0), three .0, not-true (rowLatest f time second first) (three .1))
-holds f (next calls number) e = eqb-true (refusedAs (resultOf (allocate grant.Whole (stampOf 4 7)) (run f 24 calls (begun (freshAreas f)) .areas) .answer)) number e
+holds f (next calls number) e =
+    eqb-true (refusedAs (resultOf (allocate grant.Whole (stampOf 4 7)) (run f 24 calls (begun (freshAreas f)) .areas) .answer)) number e
 
 abbrev all : Format → List Check → Bool
 all f [] = true

@@ -116,8 +116,8 @@ unfolding allocatedVerdict zoneVerdict
 whole-sound {f} e = rw (size-is e, e .codeIs, e .zoneIs, same-nowhere (wordBytes f redzone))
 
 -- a grant of s bytes
-pub sized-sound : {f : Format} {size : ℕ} {c : List ℕ} {t0 t1 : ℕ} (s : ℕ) → Ends f size c (zoneAfter f s size) (codeOf s) t0 t1 → getD c s 0 ≡ guard → 1 ≤ s → s ≤ size
-    → codeOf s ≢ redzone → allocatedVerdict f c ≡ Allocated s
+pub sized-sound : {f : Format} {size : ℕ} {c : List ℕ} {t0 t1 : ℕ} (s : ℕ) → Ends f size c (zoneAfter f s size) (codeOf s) t0 t1
+    → getD c s 0 ≡ guard → 1 ≤ s → s ≤ size → codeOf s ≢ redzone → allocatedVerdict f c ≡ Allocated s
 unfolding allocatedVerdict sizedVerdict zoneVerdict
 sized-sound {f} {size} s e g h k ne =
     rw (size-is e, e .codeIs, ne-eqb (codeOf s) redzone ne, decode-code s size h k, size-is e, g, e .zoneIs, same-nowhere (zoneAfter f s size))
@@ -197,7 +197,8 @@ module _ (f : Format) (size a : ℕ) (few : size ≤ 4096) (word : a < 429496729
   tag-word state.Allocated = xor-lt 32 a (stateWord state.Allocated) word (lit< tt)
 
   filled-ends : (fill r1 : ℕ) (s : State) → r1 < 4294967296
-      → Ends f size (chunkOf f (repeated size (wordBytes f fill)) redzone r1 (tagOf a s .t0) (tagOf a s .t1)) (wordBytes f redzone) r1 (tagOf a s .t0) (tagOf a s .t1)
+      → Ends f size (chunkOf f (repeated size (wordBytes f fill)) redzone r1 (tagOf a s .t0) (tagOf a s .t1))
+      (wordBytes f redzone) r1 (tagOf a s .t0) (tagOf a s .t1)
   unfolding tagOf
   filled-ends fill r1 s h =
       ends-chunk f size (repeated size (wordBytes f fill)) redzone r1 a (tagOf a s .t1) (length-repeated size (wordBytes f fill)) h word (tag-word s)
@@ -226,7 +227,8 @@ module _ (f : Format) (size a : ℕ) (few : size ≤ 4096) (word : a < 429496729
       base = filled-ends grantFill (codeOf s) state.Allocated (code-small s h)
 
       go : Dec (s ≡ size)
-          → Ends f size (set (chunkOf f (repeated size (wordBytes f grantFill)) redzone (codeOf s) (tagOf a state.Allocated .t0) (tagOf a state.Allocated .t1)) s guard)
+          → Ends f size
+          (set (chunkOf f (repeated size (wordBytes f grantFill)) redzone (codeOf s) (tagOf a state.Allocated .t0) (tagOf a state.Allocated .t1)) s guard)
           (zoneAfter f s size) (codeOf s) (tagOf a state.Allocated .t0) (tagOf a state.Allocated .t1)
       go (yes e) = rw (eq-eqb s size e, e) (rw e at (ends-guard base guard))
       go (no ne) = rw (ne-eqb s size ne) (ends-within base (guard ∷ []) s (omega arith))
@@ -291,7 +293,8 @@ pub fresh-lawful : (f : Format) (size : ℕ) (q : Grant) → lawfulSize size q �
 fresh-lawful f size q l = (l, length-repeated (grantSize size q) (wordBytes f grantFill))
 
 -- the client bytes
-pub client-part : (f : Format) (size a : ℕ) (o : Entry) → LawfulEntry size (some o) → part (chunkFor f size a (some o)) 0 (grantSize size (o .grant)) ≡ o .client
+pub client-part : (f : Format) (size a : ℕ) (o : Entry) → LawfulEntry size (some o)
+    → part (chunkFor f size a (some o)) 0 (grantSize size (o .grant)) ≡ o .client
 client-part f size a o l =
     part-written (grantedChunk f size a (o .grant)) (o .client) 0 (grantSize size (o .grant)) (l .1)
     (omega (arith, grant-within size (o .grant) (l .0), length-grantedChunk f size a (o .grant)))

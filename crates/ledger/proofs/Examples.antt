@@ -59,57 +59,42 @@ calls₀ = allocate (grant.Sized 5) (stampOf 1 7) ∷ store 4096 1 (17 ∷ 18 �
 calls₁ : List Call
 calls₁ = allocate (grant.Sized 5) (stampOf 1 7) ∷ allocate grant.Whole (stampOf 2 7) ∷ free 4096 (grant.Sized 5) (stampOf 3 7) ∷ []
 
--- what is evaluated: both are out, the first with the bytes stored between those of the fill; there is no room for another; a free with another grant is
--- refused; after a free the buffer isn't out, and it is the one that is granted next
 -- the first client's bytes: those of the fill, two of them stored
 client₀ : Order → List ℕ
 client₀ HighFirst = 0xba ∷ 17 ∷ 18 ∷ 0xfe ∷ 0xba ∷ []
 client₀ LowFirst = 0xfe ∷ 17 ∷ 18 ∷ 0xba ∷ 0xfe ∷ []
 
-record Evaluated (o : Order) : Type 0 where
-  first : state₀ o calls₀ .ledger .out 4096 ≡ some (record { grant = grant.Sized 5; client = client₀ o })
-  second : state₀ o calls₀ .ledger .out 4120 ≡ some (record { grant = grant.Whole; client = repeated 8 (wordBytes (formatOf o) grantFill) })
-  granted : state₀ o calls₀ .ledger .allocations ≡ 2
-  none-freed : state₀ o calls₀ .ledger .frees ≡ 0
-  no-room : answer₀ o calls₀ (allocate (grant.Sized 1) (stampOf 4 7)) ≡ answer.Refused NoRoom
-  too-large : answer₀ o calls₀ (allocate (grant.Sized 9) (stampOf 4 7)) ≡ answer.Refused BadSize
-  other-grant : answer₀ o calls₀ (free 4096 (grant.Sized 6) (stampOf 4 7)) ≡ answer.Refused OtherGrant
-  no-buffer : answer₀ o calls₀ (free 4097 (grant.Sized 5) (stampOf 4 7)) ≡ answer.Refused NoSuchBuffer
-  back : state₀ o calls₁ .ledger .out 4096 ≡ none
-  freed : state₀ o calls₁ .ledger .frees ≡ 1
-  next : answer₀ o calls₁ (allocate (grant.Sized 8) (stampOf 4 7)) ≡ answer.Value 4096
+-- what is evaluated: both are out, the first with the bytes stored between those of the fill; two are granted and none freed
+Out : Order → Type 0
+Out o =
+    (state₀ o calls₀ .ledger .out 4096 ≡ some (record { grant = grant.Sized 5; client = client₀ o }))
+    × (state₀ o calls₀ .ledger .out 4120 ≡ some (record { grant = grant.Whole; client = repeated 8 (wordBytes (formatOf o) grantFill) }))
+    × (state₀ o calls₀ .ledger .allocations ≡ 2)
+    × (state₀ o calls₀ .ledger .frees ≡ 0)
 
-evaluated : (o : Order) → Evaluated o
-unfolding areas₀ state₀ answer₀ calls₀ calls₁ client₀ run put layOutPlan layOutOf lawful sizesLawful basesLawful laidAreas sheetBytes recordBytes flat linkTo
-    part turned number bytesOf lowNumber lowBytes numberAt repeated differenceFrom tagOf patternWord patternOf decodedOf chunkOf freeChunk grantedChunk tagAt freeVerdict
-    zoneVerdict sizedVerdict allocatedVerdict withNext stamped fieldIs isShort isLong shaped orderNumber sheetOf withHead measured numbered ordered openedOf placeOf recordWord
-    takenChunk takenHead takenOf allocatePlan grantedAreas allocateOf heldChunk heldOf freePlan freedAreas freeOf storePlan storedAreas storeOf
-evaluated HighFirst = record {
-  first = refl;
-  second = refl;
-  granted = refl;
-  none-freed = refl;
-  no-room = refl;
-  too-large = refl;
-  other-grant = refl;
-  no-buffer = refl;
-  back = refl;
-  freed = refl;
-  next = refl;
-}
-evaluated LowFirst = record {
-  first = refl;
-  second = refl;
-  granted = refl;
-  none-freed = refl;
-  no-room = refl;
-  too-large = refl;
-  other-grant = refl;
-  no-buffer = refl;
-  back = refl;
-  freed = refl;
-  next = refl;
-}
+-- there is no room for another; a size above the buffer's, a free with another grant and one of no buffer are refused
+Refuses : Order → Type 0
+Refuses o =
+    (answer₀ o calls₀ (allocate (grant.Sized 1) (stampOf 4 7)) ≡ answer.Refused NoRoom)
+    × (answer₀ o calls₀ (allocate (grant.Sized 9) (stampOf 4 7)) ≡ answer.Refused BadSize)
+    × (answer₀ o calls₀ (free 4096 (grant.Sized 6) (stampOf 4 7)) ≡ answer.Refused OtherGrant)
+    × (answer₀ o calls₀ (free 4097 (grant.Sized 5) (stampOf 4 7)) ≡ answer.Refused NoSuchBuffer)
+
+-- after a free the buffer isn't out, and it is the one that is granted next
+Back : Order → Type 0
+Back o =
+    (state₀ o calls₁ .ledger .out 4096 ≡ none)
+    × (state₀ o calls₁ .ledger .frees ≡ 1)
+    × (answer₀ o calls₁ (allocate (grant.Sized 8) (stampOf 4 7)) ≡ answer.Value 4096)
+
+evaluated : (o : Order) → Out o × Refuses o × Back o
+unfolding areas₀ state₀ answer₀ calls₀ calls₁ client₀ Out Refuses Back run put layOutPlan layOutOf lawful sizesLawful basesLawful laidAreas
+    sheetBytes recordBytes flat linkTo part turned number bytesOf lowNumber lowBytes numberAt repeated differenceFrom tagOf patternWord patternOf
+    decodedOf chunkOf freeChunk grantedChunk tagAt freeVerdict zoneVerdict sizedVerdict allocatedVerdict withNext stamped fieldIs isShort isLong
+    shaped orderNumber sheetOf withHead measured numbered ordered openedOf placeOf recordWord takenChunk takenHead takenOf allocatePlan
+    grantedAreas allocateOf heldChunk heldOf freePlan freedAreas freeOf storePlan storedAreas storeOf
+evaluated HighFirst = ((refl, refl, refl, refl), (refl, refl, refl, refl), (refl, refl, refl))
+evaluated LowFirst = ((refl, refl, refl, refl), (refl, refl, refl, refl), (refl, refl, refl))
 
 -- the claim holds of this image and these calls
 sound₀ : (o : Order) → Sound (laidSheet (formatOf o) 64 4096 8192 8 2) (state₀ o calls₀)

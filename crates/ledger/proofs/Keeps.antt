@@ -61,7 +61,8 @@ module _ (g : Sheet) (laid : Laid g) where
 
   pub granted-keeps : {head : ℕ} {a : Areas} {out : ℕ → Option Entry} {j : ℕ} {js : List ℕ} (q : Grant) (t : Stamp) → lawfulSize (g .size) q ≡ true
       → Invariant g head a out (j ∷ js)
-      → Invariant g (nextWord (g .format) (a .records) j) (grantedAreas a q t (pairAt g laid head j)) (put (bufferAddress g j) (some (fresh (g .format) (g .size) q)) out) js
+      → Invariant g (nextWord (g .format) (a .records) j) (grantedAreas a q t (pairAt g laid head j))
+      (put (bufferAddress g j) (some (fresh (g .format) (g .size) q)) out) js
   unfolding grantedAreas
   granted-keeps {head} {a} {out} {j} {js} q t l v =
       let h : j < g .count = taken-below g laid v in
@@ -112,7 +113,8 @@ module _ (g : Sheet) (laid : Laid g) where
       let kept : Linked (nextWord (g .format) r) (g .«record_base») (g .count) head chain
       = linked-same (nextWord (g .format) (a .records)) (nextWord (g .format) r) (g .«record_base») (g .count) head chain
       (λ i m. sym
-      (stamped-word (g .format) before j t i nextAt (omega arith) ∙ next-other (g .format) (a .records) j head i (λ q. m (ap (λ (x : ℕ). occ x chain) q ∙ gone))))
+      (stamped-word (g .format) before j t i nextAt (omega arith)
+      ∙ next-other (g .format) (a .records) j head i (λ q. m (ap (λ (x : ℕ). occ x chain) q ∙ gone))))
       (v .linked) in
       record {
         sheetIs = rw (v .sheetIs) (sheet-head (headed g head) (recordAddress g j));

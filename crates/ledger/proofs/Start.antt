@@ -48,7 +48,8 @@ module _ (g : Sheet) (laid : Laid g) where
       flat-word (g .format) (laidRecord g) (laid-record-long g) (g .count) j bufferAt h (omega arith)
       ∙ whole-name (g .format) (linkTo g (suc j)) (bufferAddress g j) (g .cache) (omega (arith, buffer-word g (laid .law) j h, chunk-some g laid))
 
-  laid-linked : (i m : ℕ) → i + m ≡ g .count → Linked (nextWord (g .format) (flat (g .count) (laidRecord g))) (g .«record_base») (g .count) (linkTo g i) (range i m)
+  laid-linked : (i m : ℕ) → i + m ≡ g .count
+      → Linked (nextWord (g .format) (flat (g .count) (laidRecord g))) (g .«record_base») (g .count) (linkTo g i) (range i m)
   unfolding Linked range
   laid-linked i zero e = link-out g i (omega arith)
   laid-linked i (suc m) e =
@@ -56,7 +57,8 @@ module _ (g : Sheet) (laid : Laid g) where
         h,
         (
           link-in g i h,
-          subst (λ (x : ℕ). Linked (nextWord (g .format) (flat (g .count) (laidRecord g))) (g .«record_base») (g .count) x (range (suc i) m)) (sym (laid-next i h))
+          subst (λ (x : ℕ). Linked (nextWord (g .format) (flat (g .count) (laidRecord g))) (g .«record_base») (g .count) x (range (suc i) m))
+              (sym (laid-next i h))
               (laid-linked (suc i) m (omega arith)),
         ),
       )
@@ -91,7 +93,8 @@ three false q r a g e = absurd (let z : _≡_ {A = ℕ} 0 1 = cc in omega arith)
 
 -- its numbers passed, and its areas are those of the image laid out
 pub accepted : (a : Areas) (f : Format) (cache heap records size n : ℕ) → layOutOf a f cache heap records size n .answer ≡ done
-    → (lawful (laidSheet f cache heap records size n) ≡ true) × (layOutOf a f cache heap records size n .areas ≡ laidAreas (laidSheet f cache heap records size n))
+    → (lawful (laidSheet f cache heap records size n) ≡ true)
+    × (layOutOf a f cache heap records size n .areas ≡ laidAreas (laidSheet f cache heap records size n))
 unfolding layOutOf layOutPlan numbered measured
 accepted a f cache heap records size n e =
     three (eqb (length (a .sheet)) sheetLength) (lawful (laidSheet f cache heap records size n))

@@ -1,5 +1,5 @@
-// Runs of bytes that repeat a word. The word is given as the number whose bytes, the lowest first, are those to repeat: whoever calls has
-// turned it into its order, and nothing here knows of one.
+// Runs of bytes that repeat a word. The word is given as the number whose bytes, the lowest first, are those to repeat: whoever
+// calls has turned it into its order, and nothing here knows of one.
 ghost use mathlib.Core.Path.{_≡_};
 ghost use Prim.Native.Nat.{_+_, _%_, _≤_};
 ghost use lib.ListN.{length};
@@ -51,8 +51,8 @@ pub fn two_words_difference(s: &[u8], at: usize, w: u32) -> Difference
     eight::difference_at(s, at, eight::twice(w))
 }
 
-// The first place at which `len` bytes from an offset on differ from a word again and again. The longer case stands first, since the
-// compiler then puts it first.
+// The first place at which `len` bytes from an offset on differ from a word again and again. The longer case stands first,
+// since the compiler then puts it first.
 pub fn first_difference(s: &[u8], at: usize, len: usize, w: u32) -> Difference
     requires { ⌜ at + len ≤ length (now s) ⌝ }
     ensures { λ r. ⌜ r ≡ difference (part (now (s .entry)) at len) (repeated len (lowBytes 4 w)) ⌝ }

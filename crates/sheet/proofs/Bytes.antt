@@ -47,7 +47,12 @@ three-same n a b c tag len e ha hb hc ht hl = go (ℕ-discrete a tag) (ℕ-discr
   where
     go : Dec (a ≡ tag) → Dec (c + 256 * b ≡ len) → eqb n (tag + 65536 * len) ≡ eqb a tag && eqb (c + 256 * b) len
     go (yes p) (yes q) = rw (eq-eqb n (tag + 65536 * len) (omega arith), eq-eqb a tag p, eq-eqb (c + 256 * b) len q)
-    go (yes p) (no q) = rw (ne-eqb n (tag + 65536 * len) (λ f. q (omega (arith, lowest b 0 c len hb (lit< tt) (omega arith)))), eq-eqb a tag p, ne-eqb (c + 256 * b) len q)
+    go (yes p) (no q) =
+        rw (
+          ne-eqb n (tag + 65536 * len) (λ f. q (omega (arith, lowest b 0 c len hb (lit< tt) (omega arith)))),
+          eq-eqb a tag p,
+          ne-eqb (c + 256 * b) len q,
+        )
     go (no p) d = rw (ne-eqb n (tag + 65536 * len) (λ f. p (lowest a tag (c * 256 + b) (len * 256) ha ht (omega arith))), ne-eqb a tag p)
 
 -- the tag and the length of a field, by its first four bytes

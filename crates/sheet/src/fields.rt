@@ -1,5 +1,6 @@
-// The bytes of a sheet: tagged fields, one after the other, eight in the short form and in the long form one more, the order. Where each
-// stands follows from the lengths of those before it. The numbers of a sheet have the highest byte first, whatever the order of its image.
+// The bytes of a sheet: tagged fields, one after the other, eight in the short form and in the long form one more, the order.
+// Where each stands follows from the lengths of those before it. The numbers of a sheet have the highest byte first, whatever
+// the order of its image.
 ghost use mathlib.Core.Path.{_≡_};
 ghost use mathlib.Core.List.{_++_};
 ghost use Prim.Native.Nat.{_+_, _≤_};
@@ -44,8 +45,8 @@ const SHORT_FORM: usize = ORDER;
 
 pub const LENGTH: usize = ORDER + BEFORE + 1;
 
-// Whether the field at an offset has a tag and a length. Its first three bytes are compared at once, as the machine has them: the tag, then
-// the length's high byte, which is 0, and its low byte.
+// Whether the field at an offset has a tag and a length. Its first three bytes are compared at once, as the machine has them:
+// the tag, then the length's high byte, which is 0, and its low byte.
 fn field_is(s: &[u8], at: usize, tag: u8, len: u8) -> bool
     requires { ⌜ at + 4 ≤ length (now s) ⌝ }
     ensures { λ r. ⌜ r ≡ fieldIs (now (s .entry)) at tag len ⌝ }

@@ -1,5 +1,5 @@
-// The reports of a set of stored images, one behind the other, in either order: images of the dump's geometry, 460 bytes each with no log, from
-// standard input. What it writes is held to the text that the second program makes of the same images.
+// The reports of a set of stored images, one behind the other, in either order: images of the dump's geometry, 460 bytes each
+// with no log, from standard input. What it writes is held to the text that the second program makes of the same images.
 ghost use mathlib.Core.Path.{_≡_};
 ghost use Prim.Native.Nat.{_≤_};
 ghost use lib.ListN.{length};

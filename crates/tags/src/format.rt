@@ -1,5 +1,5 @@
-// How an image writes its words and its grants. It goes by value to whatever reads or writes a chunk, a record or a row of the log; a sheet
-// holds that of its image.
+// How an image writes its words and its grants. It goes by value to whatever reads or writes a chunk, a record or a row of the
+// log; a sheet holds that of its image.
 ghost use mathlib.Core.Path.{_≡_};
 ghost use Rattle.tags.specs.Format.{formatIf, isLow};
 use words::word::Order;

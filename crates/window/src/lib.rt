@@ -1,7 +1,7 @@
-// An address window (A6): a base address and the lent bytes that stand from there on; a word partly outside is no word.
-// The functions over the struct only make it or take it apart; `word_in` and `byte_in` read. A caller that holds the bytes
-// and the base by themselves asks `read_word` or `read_byte`. A word is read with the highest byte first: a window knows no image, and who
-// asks turns the word into the order of its image.
+// An address window (A6): a base address and the lent bytes that stand from there on; a word partly outside is no word. The
+// functions over the struct only make it or take it apart; `word_in` and `byte_in` read. A caller that holds the bytes and the
+// base by themselves asks `read_word` or `read_byte`. A word is read with the highest byte first: a window knows no image, and
+// who asks turns the word into the order of its image.
 ghost use mathlib.Core.Path.{_≡_};
 ghost use Rattle.window.specs.Window.{wordIn, byteIn};
 use words::word;

@@ -79,8 +79,8 @@ fn halves4(s: &[u8], at: usize) -> u32
     join4(load2(s, at), load2(s, at + 2))
 }
 
-// This and `load8` are one function more than their halves ask for: the compiler makes one load of two only in a caller of the function that
-// joins them, and there only where the number is used once, so that it has to be a caller that does nothing else.
+// This and `load8` are one function more than their halves ask for: the compiler makes one load of two only in a caller of the
+// function that joins them, and there only where the number is used once, so that it has to be a caller that does nothing else.
 pub fn load4(s: &[u8], at: usize) -> u32
     requires { ⌜ at + 4 ≤ length (now s) ⌝ }
     ensures { λ r. ⌜ lowBytes 4 r ≡ part (now (s .entry)) at 4 ⌝ }
