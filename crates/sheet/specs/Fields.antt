@@ -54,7 +54,7 @@ lengthTo zero fs = 0
 lengthTo (suc k) [] = 0
 lengthTo (suc k) (f ∷ fs) = fieldLength f + lengthTo k fs
 
--- S1 (the short form has 48 bytes), S10 (the long form has 52)
+-- S1 (the short form has 48 bytes, the long form 52)
 abbrev pub shortLength : ℕ
 shortLength = lengthTo 8 fields
 
@@ -76,14 +76,14 @@ abbrev pub fieldsFrom : List Field → ℕ → List ℕ → Bool
 fieldsFrom [] at s = true
 fieldsFrom (f ∷ fs) at s = fieldIs s at (f .tag) (f .len) && fieldsFrom fs (at + fieldLength f) s
 
--- S1, S2 (the short form: its length and its fields), S10 (the long form)
+-- S1 (the two forms): S2 (the fields of the short one), S10 (and of the long one)
 unfoldable pub isShort : List ℕ → Bool
 isShort s = eqb (length s) shortLength && fieldsFrom shortFields 0 s
 
 unfoldable pub isLong : List ℕ → Bool
 isLong s = eqb (length s) sheetLength && fieldsFrom fields 0 s
 
--- S10 (neither form): where this fails, X1
+-- S1 (one of the two forms): where this fails, X1
 unfoldable pub shaped : List ℕ → Bool
 shaped s = isShort s || isLong s
 
