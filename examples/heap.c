@@ -1,39 +1,77 @@
-/* Lays out a heap of three buffers, uses it, hurts it, and prints a report each time. */
+/*
+ * Lays out a heap of three buffers, uses it, hurts it, and prints a report each time; then
+ * lays out one of the userland profile and uses it.
+ */
 #include <stdio.h>
 
 #include "combgallop.h"
 
 static uint8_t sheet[CG_SHEET_LENGTH], heap[3 * (24 + 16)], records[3 * CG_RECORD_LENGTH];
+static uint8_t userland_records[3 * CG_USERLAND_RECORD_LENGTH];
 
-static int print_report(void)
+static const uint32_t heap_base = 0x1000, record_base = 0x2000, uptime = 5000, thread = 0x40;
+static const bool low_first = false; /* words stand high byte first */
+
+static int print_report(bool userland)
 {
     uint8_t log[1] = {0}, output[256]; /* a log of no rows */
-    uint64_t answer = cg_report(sheet, sizeof sheet, heap, sizeof heap, records,
-                                sizeof records, log, 0, output, sizeof output);
+    uint64_t answer = cg_report(userland, sheet, sizeof sheet, heap, sizeof heap,
+                                userland ? userland_records : records,
+                                userland ? sizeof userland_records : sizeof records,
+                                log, 0, output, sizeof output);
     fwrite(output, 1, cg_value(answer), stdout);
     return cg_refusal(answer);
 }
 
-int main(void)
+static int use_kernel(void)
 {
-    const uint32_t heap_base = 0x1000, uptime = 5000, thread = 0x40;
-    const bool low_first = false; /* words stand high byte first */
-    if (cg_lay_out(low_first, 0x70, heap_base, 0x2000, 24, 3, sheet, sizeof sheet, heap,
-                   sizeof heap, records, sizeof records))
+    if (cg_lay_out(false, low_first, 0x70, heap_base, record_base, 24, 3, sheet, sizeof sheet,
+                   heap, sizeof heap, records, sizeof records))
         return 1;
-    uint64_t answer = cg_allocate(sheet, sizeof sheet, heap, sizeof heap, records,
+    uint64_t answer = cg_allocate(false, sheet, sizeof sheet, heap, sizeof heap, records,
                                   sizeof records, false, 20, uptime, thread);
     if (cg_refusal(answer))
         return 1;
     uint32_t buffer = cg_value(answer);
-    if (cg_store(sheet, sizeof sheet, heap, sizeof heap, records, sizeof records, buffer, 0,
-                 (const uint8_t *)"relay", 5))
+    if (cg_store(false, sheet, sizeof sheet, heap, sizeof heap, records, sizeof records, buffer,
+                 0, (const uint8_t *)"relay", 5))
         return 1;
-    answer = cg_show(sheet, sizeof sheet, heap, sizeof heap, records, sizeof records, buffer);
+    answer = cg_show(false, sheet, sizeof sheet, heap, sizeof heap, records, sizeof records,
+                     buffer);
     printf("buffer 0x%x has %u client bytes: %.5s\n", buffer, cg_value(answer),
            (const char *)heap + (buffer - heap_base));
-    if (print_report())
+    if (print_report(false))
         return 1;
     heap[buffer - heap_base + 20] = 0; /* one byte past its end */
-    return print_report();
+    return print_report(false);
+}
+
+/* The same areas; the records are longer, and a grant of a size has a header. */
+static int use_userland(void)
+{
+    if (cg_lay_out(true, low_first, 0x70, heap_base, record_base, 24, 3, sheet, sizeof sheet,
+                   heap, sizeof heap, userland_records, sizeof userland_records))
+        return 1;
+    uint64_t answer = cg_allocate(true, sheet, sizeof sheet, heap, sizeof heap,
+                                  userland_records, sizeof userland_records, false, 10, uptime,
+                                  thread);
+    if (cg_refusal(answer))
+        return 1;
+    uint32_t buffer = cg_value(answer);
+    if (cg_store(true, sheet, sizeof sheet, heap, sizeof heap, userland_records,
+                 sizeof userland_records, buffer, 0, (const uint8_t *)"relay", 5))
+        return 1;
+    answer = cg_show(true, sheet, sizeof sheet, heap, sizeof heap, userland_records,
+                     sizeof userland_records, buffer);
+    if (cg_refusal(answer))
+        return 1;
+    printf("userland buffer 0x%x has %u client bytes from %u on: %.5s\n", buffer,
+           cg_value(answer), cg_start(answer),
+           (const char *)heap + (buffer - heap_base) + cg_start(answer));
+    return print_report(true);
+}
+
+int main(void)
+{
+    return use_kernel() || use_userland();
 }

@@ -1,22 +1,36 @@
-//! Lays out a heap of three buffers, uses it, hurts it, and prints a report each time.
+//! Lays out a heap of three buffers, uses it, hurts it, and prints a report each time; then
+//! lays out one of the userland profile and uses it.
 
-use combgallop::{allocate, lay_out, report, show, store, Grant, Order, Refusal};
+use combgallop::{
+    allocate, lay_out, report, show, show_answer, store, Grant, Order, Profile, Refusal,
+};
 
-fn print_report(sheet: &[u8], heap: &[u8], records: &[u8]) -> Result<(), Refusal> {
+const HEAP_BASE: u32 = 0x1000;
+const RECORD_BASE: u32 = 0x2000;
+const UPTIME: u32 = 5000;
+const THREAD: u32 = 0x40;
+
+fn print_report(
+    profile: Profile,
+    sheet: &[u8],
+    heap: &[u8],
+    records: &[u8],
+) -> Result<(), Refusal> {
     let mut output = [0; 256];
-    let length = report(sheet, heap, records, &[], &mut output)?;
+    let length = report(profile, sheet, heap, records, &[], &mut output)?;
     print!("{}", String::from_utf8_lossy(&output[..length]));
     Ok(())
 }
 
-fn main() -> Result<(), Refusal> {
+fn use_kernel() -> Result<(), Refusal> {
     let (mut sheet, mut heap, mut records) = ([0; 52], [0; 3 * (24 + 16)], [0; 3 * 96]);
-    let (heap_base, uptime, thread) = (0x1000, 5000, 0x40);
+    let profile = Profile::Kernel;
     lay_out(
+        profile,
         Order::HighFirst,
         0x70,
-        heap_base,
-        0x2000,
+        HEAP_BASE,
+        RECORD_BASE,
         24,
         3,
         &mut sheet,
@@ -24,15 +38,65 @@ fn main() -> Result<(), Refusal> {
         &mut records,
     )?;
     let grant = Grant::Sized(20);
-    let buffer = allocate(&mut sheet, &mut heap, &mut records, grant, uptime, thread)?;
-    store(&sheet, &mut heap, &records, buffer, 0, b"relay")?;
-    let client = show(&sheet, &heap, &records, buffer)?;
+    let buffer = allocate(
+        profile,
+        &mut sheet,
+        &mut heap,
+        &mut records,
+        grant,
+        UPTIME,
+        THREAD,
+    )?;
+    store(profile, &sheet, &mut heap, &records, buffer, 0, b"relay")?;
+    let client = show(profile, &sheet, &heap, &records, buffer)?;
     let text = String::from_utf8_lossy(&client[..5]);
     println!(
         "buffer {buffer:#x} has {} client bytes: {text}",
         client.len()
     );
-    print_report(&sheet, &heap, &records)?;
-    heap[(buffer - heap_base) as usize + 20] = 0; // one byte past its end
-    print_report(&sheet, &heap, &records)
+    print_report(profile, &sheet, &heap, &records)?;
+    heap[(buffer - HEAP_BASE) as usize + 20] = 0; // one byte past its end
+    print_report(profile, &sheet, &heap, &records)
+}
+
+/// The records are longer, and a grant of a size has a header.
+fn use_userland() -> Result<(), Refusal> {
+    let (mut sheet, mut heap, mut records) = ([0; 52], [0; 3 * (24 + 16)], [0; 3 * 100]);
+    let profile = Profile::Userland;
+    lay_out(
+        profile,
+        Order::HighFirst,
+        0x70,
+        HEAP_BASE,
+        RECORD_BASE,
+        24,
+        3,
+        &mut sheet,
+        &mut heap,
+        &mut records,
+    )?;
+    let grant = Grant::Sized(10);
+    let buffer = allocate(
+        profile,
+        &mut sheet,
+        &mut heap,
+        &mut records,
+        grant,
+        UPTIME,
+        THREAD,
+    )?;
+    store(profile, &sheet, &mut heap, &records, buffer, 0, b"relay")?;
+    let client = show(profile, &sheet, &heap, &records, buffer)?;
+    let start = show_answer(profile, &sheet, &heap, &records, buffer).start();
+    let text = String::from_utf8_lossy(&client[..5]);
+    println!(
+        "userland buffer {buffer:#x} has {} client bytes from {start} on: {text}",
+        client.len()
+    );
+    print_report(profile, &sheet, &heap, &records)
+}
+
+fn main() -> Result<(), Refusal> {
+    use_kernel()?;
+    use_userland()
 }

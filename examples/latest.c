@@ -1,12 +1,15 @@
 /*
- * Who touched the hurt buffers last? Reads an image from standard input, behind one byte with
- * the length of its sheet, and prints, for each buffer with a fault, its latest transaction.
- * The argument is the uptime at the reset, in ms.
+ * Who touched the hurt buffers last? Reads a kernel image from standard input, behind one byte
+ * with the length of its sheet, and prints, for each buffer with a fault, its latest
+ * transaction. The argument is the uptime at the reset, in ms.
  */
 #include <stdio.h>
 #include <stdlib.h>
 
 #include "combgallop.h"
+
+/* The profile of the images: their records have CG_RECORD_LENGTH bytes. */
+static const bool userland = false;
 
 /* Whether the words of a sheet's image stand low byte first. */
 static bool is_low_first(const uint8_t *sheet, size_t sheet_length)
@@ -51,7 +54,7 @@ int main(int argc, char **argv)
 
     /* The sheet says how long heap and records are; all that follows them is the log. */
     uint32_t lengths[2];
-    uint64_t answer = cg_area_lengths(sheet, sheet_length, lengths, 2);
+    uint64_t answer = cg_area_lengths(userland, sheet, sheet_length, lengths, 2);
     if (cg_refusal(answer))
         return refused(answer);
     size_t heap_length = lengths[0], records_length = lengths[1];
@@ -61,8 +64,8 @@ int main(int argc, char **argv)
     size_t log_length = length - sheet_length - heap_length - records_length;
     bool low_first = is_low_first(sheet, sheet_length);
 
-    answer = cg_inspect(sheet, sheet_length, heap, heap_length, records, records_length, rows,
-                        3 * CG_BUFFERS_MOST);
+    answer = cg_inspect(userland, sheet, sheet_length, heap, heap_length, records,
+                        records_length, rows, 3 * CG_BUFFERS_MOST);
     if (cg_refusal(answer))
         return refused(answer);
     for (uint32_t i = 0; i < cg_value(answer); i++) {
@@ -73,7 +76,7 @@ int main(int argc, char **argv)
         if (row[1] == CG_BAD_FILL || row[1] == CG_BAD_REDZONE || row[1] == CG_OVERRUN)
             printf(" at offset %u", row[2]);
         printf(": ");
-        uint64_t latest = cg_latest(sheet, sheet_length, heap, heap_length, records,
+        uint64_t latest = cg_latest(userland, sheet, sheet_length, heap, heap_length, records,
                                     records_length, log, log_length, i, now);
         if (cg_refusal(latest)) {
             refused(latest);

@@ -15,7 +15,20 @@
  * byte first, and a sheet without that field means high byte first. The order holds for
  * every number of heap, records and log; the sheet's own numbers always stand with the
  * highest byte first. Only cg_lay_out is told an order; every other call reads it from
- * the sheet. By offset:
+ * the sheet.
+ *
+ * An image has a profile, kernel or userland, by whose rules its records and grants are
+ * written. The image does not say which: the caller names it in every call, by the first
+ * argument, true for userland. An image read under the other profile is read wrongly, or
+ * refused for the length of its records, but does no harm. Under the userland profile
+ *
+ *   - a record has 100 bytes instead of 96, one more of those that are not read;
+ *   - a grant of a size has a header, the first 8 bytes of the buffer: the coded size, which
+ *     is the client's request plus 8, and then 0x3a10c000 minus the coded size. The client's
+ *     bytes follow it. The guard byte and the size code go by the coded size; what calls,
+ *     verdicts and reports say is the request. A whole grant has no header.
+ *
+ * By offset:
  *
  *   sheet    52 bytes: nine fields of tag (1 byte), length (2 bytes) and body. Bodies:
  *            cache address 3, heap base 10, record base 17 (4 bytes each), buffer size
@@ -25,10 +38,10 @@
  *   heap     a chunk for each buffer: the buffer, then 16 bytes of redzone and tag.
  *            Chunk size is buffer size plus 16. Buffer i is at i times the chunk size,
  *            and its address is the heap base plus that.
- *   records  a record of 96 bytes for each buffer: next 0, buffer address 4, slab 8,
- *            cache 12, timestamp 16 (one number of 8 bytes, the uptime in ms; its low
- *            half is at 20, or at 16 where the low byte stands first), thread 24; the
- *            rest is not read
+ *   records  a record of 96 bytes for each buffer, of 100 under the userland profile:
+ *            next 0, buffer address 4, slab 8, cache 12, timestamp 16 (one number of 8
+ *            bytes, the uptime in ms; its low half is at 20, or at 16 where the low byte
+ *            stands first), thread 24; the rest is not read
  *   log      rows of 16 bytes: record address 0, uptime in ms 4, thread 8, kind 12
  *            (1 allocate, 2 free; no rule reads it)
  *
@@ -36,7 +49,8 @@
  *
  *   bits  0 to  7   the refusal's number, 0 when the call was accepted
  *   bits  8 to 15   the refusal's detail, 0 for every refusal but 7
- *   bits 16 to 31   0
+ *   bits 16 to 31   of an accepted cg_show, where in the buffer the client's bytes start;
+ *                   else 0
  *   bits 32 to 63   the value of an accepted call, 0 for a refusal
  *
  * A refused call has changed nothing. Link with libcapi.a, written by
@@ -57,18 +71,20 @@ extern "C" {
 enum {
     CG_SHEET_LENGTH = 52,       /* what cg_lay_out writes and needs */
     CG_SHORT_SHEET_LENGTH = 48, /* the form without an order, read as high byte first */
-    CG_RECORD_LENGTH = 96,
+    CG_RECORD_LENGTH = 96,           /* under the kernel profile */
+    CG_USERLAND_RECORD_LENGTH = 100, /* under the userland profile */
     CG_ROW_LENGTH = 16,
     CG_BUFFERS_MOST = 512,
     CG_HEAP_MOST = 65536,
-    CG_RECORDS_MOST = 49152, /* 512 records */
-    CG_LOG_MOST = 16384,     /* 1,024 rows */
+    CG_RECORDS_MOST = 49152,          /* 512 records under the kernel profile */
+    CG_USERLAND_RECORDS_MOST = 51200, /* 512 records under the userland profile */
+    CG_LOG_MOST = 16384,              /* 1,024 rows */
     /*
      * An output of this length has room for every report: that no text is longer is
-     * proved of the function that writes it. The longest that the rules allow is far shorter, 8,639 bytes: 14 for the
-     * first line; for 512 buffers 8,594, which is `I fault V OFFSET` with offsets of three
-     * digits (512 buffers have at most 112 bytes each); 20 for `chain 512 again 511`; 11
-     * for `faults 512`.
+     * proved of the function that writes it. The longest that the rules allow is far
+     * shorter, 8,639 bytes under either profile: 14 for the first line; for 512 buffers
+     * 8,594, which is `I fault V OFFSET` with offsets of three digits (512 buffers have at
+     * most 112 bytes each); 20 for `chain 512 again 511`; 11 for `faults 512`.
      */
     CG_REPORT_MOST = 65535
 };
@@ -77,7 +93,7 @@ enum {
 enum {
     CG_FREE = 0,
     CG_WHOLE = 1,           /* allocated, the whole buffer */
-    CG_ALLOCATED = 2,       /* allocated, with its size */
+    CG_ALLOCATED = 2,       /* allocated, with the size that was asked for */
     CG_NOT_ONE_RECORD = 20, /* not exactly one record names the buffer; faults from here on */
     CG_BAD_TAG = 21,        /* the tag names another record, or has neither pattern */
     CG_FREED_TWICE = 22,    /* the chain comes back to its record */
@@ -86,7 +102,8 @@ enum {
     CG_BAD_FILL = 25,       /* written to after it was freed, with the first offset */
     CG_BAD_REDZONE = 26,    /* redzone of a free buffer written to, with the first offset */
     CG_BAD_SIZE_CODE = 27,  /* the size code is none */
-    CG_OVERRUN = 28         /* written past its end, with the first offset */
+    CG_OVERRUN = 28,        /* written past its end, with the first offset */
+    CG_BAD_HEADER = 30      /* the header of a sized userland grant is wrong */
 };
 
 /* Refusals: why a call was not carried out. */
@@ -97,7 +114,7 @@ enum {
     CG_BAD_LENGTH = 3,     /* an area or the log has a wrong length */
     CG_NO_SUCH_BUFFER = 4, /* no buffer starts at the address, or the index is not below n */
     CG_NO_ROOM = 5,        /* the chain's head is 0 */
-    CG_BAD_SIZE = 6,       /* size 0 or above the buffer size */
+    CG_BAD_SIZE = 6,       /* size 0 or above the buffer size, less 8 in userland */
     CG_DAMAGE = 7,         /* damage; the detail is a verdict's number, or CG_BROKEN_HEAD */
     CG_NOT_ALLOCATED = 8,  /* the buffer is free */
     CG_OTHER_GRANT = 9,    /* the buffer was granted otherwise */
@@ -120,6 +137,12 @@ static inline uint8_t cg_detail(uint64_t answer)
     return (uint8_t)((answer >> 8) & 0xff);
 }
 
+/* Where in the buffer the client's bytes start, of an accepted cg_show: 0 or 8. */
+static inline uint16_t cg_start(uint64_t answer)
+{
+    return (uint16_t)((answer >> 16) & 0xffff);
+}
+
 /* The value of an accepted call. */
 static inline uint32_t cg_value(uint64_t answer)
 {
@@ -130,24 +153,28 @@ static inline uint32_t cg_value(uint64_t answer)
 #define CG_RECORD_MARK 0x80000000u
 
 /*
- * Tells how long the areas of a sheet have to be. Fills two numbers: the length of the
- * heap and that of the records, in bytes. Numbers past those stay as they are.
+ * Tells how long the areas of a sheet have to be, under a profile. Fills two numbers: the
+ * length of the heap and that of the records, in bytes. Numbers past those stay as they
+ * are.
  *
  * Value: 0.
  * Refusals: 1, 2; 11 when lengths_length is below 2.
  */
-uint64_t cg_area_lengths(const uint8_t *sheet, size_t sheet_length,
+uint64_t cg_area_lengths(bool userland,
+                         const uint8_t *sheet, size_t sheet_length,
                          uint32_t *lengths, size_t lengths_length);
 
 /*
  * Judges every buffer. Fills three numbers for each, in the order of the buffers: its
- * index, its verdict's number, and the verdict's size (verdict 2) or offset (25, 26
- * and 28), else 0. Numbers past those stay as they are.
+ * index, its verdict's number, and the verdict's size (verdict 2), which is the client's
+ * request, or offset from the buffer's start (25, 26 and 28), else 0. Numbers past those
+ * stay as they are.
  *
  * Value: the count of buffers n.
  * Refusals: 1, 2, 3; 11 when rows_length is below three times n.
  */
-uint64_t cg_inspect(const uint8_t *sheet, size_t sheet_length,
+uint64_t cg_inspect(bool userland,
+                    const uint8_t *sheet, size_t sheet_length,
                     const uint8_t *heap, size_t heap_length,
                     const uint8_t *records, size_t records_length,
                     uint32_t *rows, size_t rows_length);
@@ -161,7 +188,8 @@ uint64_t cg_inspect(const uint8_t *sheet, size_t sheet_length,
  * Value: the count of buffers n.
  * Refusals: 1, 2, 3; 11 when rows_length is below three times n or chain_length below 3.
  */
-uint64_t cg_survey(const uint8_t *sheet, size_t sheet_length,
+uint64_t cg_survey(bool userland,
+                   const uint8_t *sheet, size_t sheet_length,
                    const uint8_t *heap, size_t heap_length,
                    const uint8_t *records, size_t records_length,
                    const uint8_t *log, size_t log_length,
@@ -177,7 +205,8 @@ uint64_t cg_survey(const uint8_t *sheet, size_t sheet_length,
  * Refusals: 1, 2, 3; 4 when index is not below n; 7 with detail 20 when not exactly
  * one record names the buffer; 12 when its stamp needs more than 32 bits.
  */
-uint64_t cg_latest(const uint8_t *sheet, size_t sheet_length,
+uint64_t cg_latest(bool userland,
+                   const uint8_t *sheet, size_t sheet_length,
                    const uint8_t *heap, size_t heap_length,
                    const uint8_t *records, size_t records_length,
                    const uint8_t *log, size_t log_length,
@@ -190,7 +219,8 @@ uint64_t cg_latest(const uint8_t *sheet, size_t sheet_length,
  * Value: the length of the report.
  * Refusals: 1, 2, 3; 11 when output_length is below that length.
  */
-uint64_t cg_report(const uint8_t *sheet, size_t sheet_length,
+uint64_t cg_report(bool userland,
+                   const uint8_t *sheet, size_t sheet_length,
                    const uint8_t *heap, size_t heap_length,
                    const uint8_t *records, size_t records_length,
                    const uint8_t *log, size_t log_length,
@@ -198,18 +228,18 @@ uint64_t cg_report(const uint8_t *sheet, size_t sheet_length,
 
 /*
  * Writes a sheet, a heap and records: `count` free buffers of `size` bytes, buffer i
- * paired with record i, and the chain through all of them in that order. Words stand low
- * byte first when `low_first` is true, else high byte first; the sheet says so in its
- * last field.
+ * paired with record i, and the chain through all of them in that order. The records are
+ * those of the profile. Words stand low byte first when `low_first` is true, else high byte
+ * first; the sheet says so in its last field.
  *
  * Value: 0.
  * Refusals: 1 when sheet_length is not 52; 2 when an argument breaks a limit: size is
  * a multiple of 8 from 8 to 4,096, count is 1 to 512, count times (size + 16) is at most
  * 65,536, both bases are non-zero multiples of 8, neither area passes 2^32, and they
  * share no address; 3 when heap_length is not count times (size + 16), or
- * records_length not count times 96.
+ * records_length not count times 96, or 100 under the userland profile.
  */
-uint64_t cg_lay_out(bool low_first,
+uint64_t cg_lay_out(bool userland, bool low_first,
                     uint32_t cache, uint32_t heap_base, uint32_t record_base,
                     uint32_t size, uint32_t count,
                     uint8_t *sheet, size_t sheet_length,
@@ -218,16 +248,18 @@ uint64_t cg_lay_out(bool low_first,
 
 /*
  * Grants the buffer of the chain's first record: all of it when `whole` is true, and
- * `size` is not read then; else its first `size` bytes. Stamps the record with uptime
- * and thread.
+ * `size` is not read then; else its first `size` bytes, or under the userland profile the
+ * first `size` bytes behind its header. Stamps the record with uptime and thread.
  *
  * Value: the buffer's address.
- * Refusals: 1, 2, 3; 6 when a size is asked for that is 0 or above the buffer size; 5
- * when the chain's head is 0; 7 when the head is no record (detail 29), it names no
- * buffer (20), the buffer's tag names another record or has neither pattern (21) or the
- * allocated one (24), or its fill (25) or redzone (26) is hurt.
+ * Refusals: 1, 2, 3; 6 when a size is asked for that is 0 or above the buffer size, or
+ * under the userland profile above the buffer size less 8; 5 when the chain's head is 0;
+ * 7 when the head is no record (detail 29), it names no buffer (20), the buffer's tag names
+ * another record or has neither pattern (21) or the allocated one (24), or its fill (25) or
+ * redzone (26) is hurt.
  */
-uint64_t cg_allocate(uint8_t *sheet, size_t sheet_length,
+uint64_t cg_allocate(bool userland,
+                     uint8_t *sheet, size_t sheet_length,
                      uint8_t *heap, size_t heap_length,
                      uint8_t *records, size_t records_length,
                      bool whole, uint32_t size, uint32_t uptime, uint32_t thread);
@@ -240,37 +272,43 @@ uint64_t cg_allocate(uint8_t *sheet, size_t sheet_length,
  * Value: 0.
  * Refusals: 1, 2, 3; 4 when no buffer starts at the address; 7 with detail 21 when the
  * buffer's tag names no record or one that names another buffer, or has neither pattern;
- * 8 when the buffer is free; 7 when its size code is none (27), or its guard byte or
- * redzone is hurt (28); 9 when it was granted otherwise.
+ * 8 when the buffer is free; 7 when its size code is none (27), its guard byte or redzone
+ * is hurt (28), or under the userland profile its header is wrong (30); 9 when it was
+ * granted otherwise.
  */
-uint64_t cg_free(uint8_t *sheet, size_t sheet_length,
+uint64_t cg_free(bool userland,
+                 uint8_t *sheet, size_t sheet_length,
                  uint8_t *heap, size_t heap_length,
                  uint8_t *records, size_t records_length,
                  uint32_t address, bool whole, uint32_t size,
                  uint32_t uptime, uint32_t thread);
 
 /*
- * Writes bytes at an offset in the client's bytes of the buffer at an address. No bytes
- * may be stored at any offset up to the count of the client's bytes.
+ * Writes bytes at an offset in the client's bytes of the buffer at an address. The offset
+ * counts from the first of these, which cg_show finds. No bytes may be stored at any offset
+ * up to the count of the client's bytes.
  *
  * Value: 0.
  * Refusals: 1, 2, 3; 4, 7 and 8 as cg_free gives them, in that order; 10 when offset
  * plus bytes_length passes the client's bytes.
  */
-uint64_t cg_store(const uint8_t *sheet, size_t sheet_length,
+uint64_t cg_store(bool userland,
+                  const uint8_t *sheet, size_t sheet_length,
                   uint8_t *heap, size_t heap_length,
                   const uint8_t *records, size_t records_length,
                   uint32_t address, uint32_t offset,
                   const uint8_t *bytes, size_t bytes_length);
 
 /*
- * Counts the client's bytes of the buffer at an address. They stand in the heap area
- * from the buffer's start on, which is at `address` minus the heap's base.
+ * Finds the client's bytes of the buffer at an address. The buffer starts at `address` minus
+ * the heap's base in the heap area, and the client's bytes start cg_start(answer) bytes
+ * behind that: at 8 in a buffer granted with a size under the userland profile, else at 0.
  *
  * Value: how many bytes were granted, the buffer size when granted whole.
  * Refusals: 1, 2, 3; 4, 7 and 8 as cg_free gives them, in that order.
  */
-uint64_t cg_show(const uint8_t *sheet, size_t sheet_length,
+uint64_t cg_show(bool userland,
+                 const uint8_t *sheet, size_t sheet_length,
                  const uint8_t *heap, size_t heap_length,
                  const uint8_t *records, size_t records_length,
                  uint32_t address);

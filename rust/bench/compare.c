@@ -1,23 +1,32 @@
 /*
- * Times cg_inspect of the library that this is linked with, on images in files: a sheet of
- * the short form, the heap and the records. Prints a line for each: the nanoseconds of one
- * call, the least of many samples; a number that stands for all rows found; and the file.
+ * Times cg_inspect of the library that this is linked with, on kernel images in files: a
+ * sheet of the short form, the heap and the records. Prints a line for each: the nanoseconds
+ * of one call, the least of many samples; a number that stands for all rows found; and the
+ * file. With WITHOUT_PROFILE defined it is for a library from before there were profiles.
  */
 #define _POSIX_C_SOURCE 199309L
 
 #include <inttypes.h>
 #include <stdalign.h>
+#include <stdbool.h>
 #include <stddef.h>
 #include <stdint.h>
 #include <stdio.h>
 #include <stdlib.h>
 #include <time.h>
 
-/* As every library of these calls has it. */
+#ifdef WITHOUT_PROFILE
 uint64_t cg_inspect(const uint8_t *sheet, size_t sheet_length,
                     const uint8_t *heap, size_t heap_length,
                     const uint8_t *records, size_t records_length,
                     uint32_t *rows, size_t rows_length);
+#else
+uint64_t cg_inspect(bool userland,
+                    const uint8_t *sheet, size_t sheet_length,
+                    const uint8_t *heap, size_t heap_length,
+                    const uint8_t *records, size_t records_length,
+                    uint32_t *rows, size_t rows_length);
+#endif
 
 enum {
     SHEET_LENGTH = 48,
@@ -76,8 +85,13 @@ static void read_image(const char *file)
 
 static uint64_t inspect(void)
 {
+#ifdef WITHOUT_PROFILE
     return cg_inspect(sheet, sizeof sheet, heap, heap_length,
                       records, count * RECORD_LENGTH, rows, 3 * count);
+#else
+    return cg_inspect(false, sheet, sizeof sheet, heap, heap_length,
+                      records, count * RECORD_LENGTH, rows, 3 * count);
+#endif
 }
 
 static double now(void)

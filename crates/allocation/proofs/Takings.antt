@@ -7,6 +7,7 @@ use lib.ListN.{length}
 use Rattle.words.proofs.Tests.{by-test}
 use Rattle.tags.specs.Tag.{patternOf}
 use Rattle.tags.specs.Verdict.{verdictNumber, isFoundFree}
+use Rattle.tags.specs.declared.format.Profile.{Profile}
 use Rattle.tags.specs.declared.tag.Pattern.{Pattern}
 use Rattle.tags.specs.declared.tag.Pattern.the-variants as pattern
 use Rattle.chunks.specs.Chunk.{tagAt, lawfulSize}
@@ -42,13 +43,13 @@ taken-by a q pattern.Neither c p k = tt
 taken-by a q pattern.Allocated c p k = tt
 taken-by a q pattern.Free c p k = by-test (TakenIf a q) (isFoundFree (verdictNumber (freeVerdict (p .sheet .format) c))) (λ t. k) (λ t. tt)
 
-taken-if : (a : Areas) (q : Grant) → TakenIf a q (allocatePlan a q)
+taken-if : (profile : Profile) (a : Areas) (q : Grant) → TakenIf a q (allocatePlan profile a q)
 unfolding allocatePlan takenOf takenHead takenChunk
-taken-if a q =
-    by-opened P (opening a)
+taken-if profile a q =
+    by-opened P (opening profile a)
     (λ g e.
-    let o = opened-known (a .sheet) (length (a .heap)) (length (a .records)) g e in
-    by-test P (lawfulSize (g .size) q)
+    let o = opened-known profile (a .sheet) (length (a .heap)) (length (a .records)) g e in
+    by-test P (lawfulSize (g .format .profile) (g .size) q)
     (λ l. by-test P (eqb (g .head) 0) (λ t. tt)
     (λ t. by-place P (recordOf g (g .head))
     (λ j f. by-place P (bufferOf g (addressWord (g .format) (a .records) j))
@@ -66,5 +67,5 @@ taken-if a q =
     P : AllocatePlan → Type 0
     P = TakenIf a q
 
-pub taken-known : (a : Areas) (q : Grant) (p : Spot) → allocatePlan a q ≡ Take p → byLengths Takes a q p
-taken-known a q p e = subst (TakenIf a q) e (taken-if a q)
+pub taken-known : (profile : Profile) (a : Areas) (q : Grant) (p : Spot) → allocatePlan profile a q ≡ Take p → byLengths Takes a q p
+taken-known profile a q p e = subst (TakenIf a q) e (taken-if profile a q)

@@ -7,6 +7,7 @@ use lib.Dec.{eqb}
 use lib.Seq.{sets}
 use Rattle.tags.specs.Tag.{patternOf}
 use Rattle.tags.specs.Verdict.{verdictNumber, isFoundFree}
+use Rattle.tags.specs.declared.format.Profile.{Profile}
 use Rattle.tags.specs.declared.tag.Pattern.{Pattern}
 use Rattle.tags.specs.declared.tag.Pattern.the-variants as pattern
 use Rattle.tags.specs.declared.verdict.Verdict.{Verdict}
@@ -53,11 +54,11 @@ takenHead m =
 
 -- E5 (X6, X5, then X7), in an image
 unfoldable pub takenOf : Image → Grant → AllocatePlan
-takenOf m q = cond (lawfulSize (m .sheet .size) q) (cond (eqb (m .sheet .head) 0) (Refused NoRoom) (takenHead m)) (Refused BadSize)
+takenOf m q = cond (lawfulSize (m .sheet .format .profile) (m .sheet .size) q) (cond (eqb (m .sheet .head) 0) (Refused NoRoom) (takenHead m)) (Refused BadSize)
 
 -- E5 (allocate: X6, X5, X7), after E3
-unfoldable pub allocatePlan : Areas → Grant → AllocatePlan
-allocatePlan a q = byImage (opening a) a (λ m. takenOf m q) Refused
+unfoldable pub allocatePlan : Profile → Areas → Grant → AllocatePlan
+allocatePlan profile a q = byImage (opening profile a) a (λ m. takenOf m q) Refused
 
 -- K6 (what allocate writes): the granted chunk, the record's stamp and thread, the new head; the next word stays
 unfoldable pub grantedAreas : Areas → Grant → Stamp → Spot → Areas
@@ -72,10 +73,10 @@ allocateResult a q s (Take p) = result (answer.Value (bufferStart p)) (grantedAr
 allocateResult a q s (Refused why) = refusedWith (answer.Refused why) a
 
 -- K5, K6, E5 (allocate)
-unfoldable pub allocateOf : Areas → Grant → Stamp → Result Answer
-allocateOf a q s = allocateResult a q s (allocatePlan a q)
+unfoldable pub allocateOf : Profile → Areas → Grant → Stamp → Result Answer
+allocateOf profile a q s = allocateResult a q s (allocatePlan profile a q)
 
 -- what is known of a buffer that is taken, in areas of s, h and r bytes
 pub record Takes (s h r : ℕ) (q : Grant) (p : Spot) : Type 0 where
   pub within : Within s h r p
-  pub granted : lawfulSize (p .sheet .size) q ≡ true
+  pub granted : lawfulSize (p .sheet .format .profile) (p .sheet .size) q ≡ true

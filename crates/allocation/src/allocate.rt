@@ -12,6 +12,7 @@ use area::place::Place;
 use area::record::Stamp;
 use chunks::chunk;
 use chunks::chunk::Grant;
+use chunks::header;
 use chunks::judge;
 use geometry::sheet::Sheet;
 use places::heap;
@@ -20,9 +21,9 @@ use places::spot::Spot;
 use sheet::fields;
 use sheet::opening;
 use sheet::opening::Opened;
+use tags::format::Profile;
 use tags::refusal::Answer;
 use tags::refusal::Refusal;
-use tags::tag::Pattern;
 use tags::verdict;
 use tags::verdict::Told;
 use tags::verdict::Verdict;
@@ -34,16 +35,16 @@ pub enum AllocatePlan {
 }
 
 // Whether a request is of lawful size.
-fn lawful_size(grant: Grant, size: usize) -> bool
-    ensures { λ r. ⌜ r ≡ lawfulSize size grant ⌝ }
+fn lawful_size(p: Profile, grant: Grant, size: usize) -> bool
+    ensures { λ r. ⌜ r ≡ lawfulSize p size grant ⌝ }
 {
     match grant {
         Grant::Whole => true,
-        Grant::Sized(s) => {
-            if s < 1 {
+        Grant::Sized(q) => {
+            if q < 1 {
                 return false;
             }
-            s as usize <= size
+            q as usize <= header::request_most(p, size)
         }
     }
 }
@@ -70,12 +71,13 @@ fn take_chunk(chunk: &[u8], p: Spot) -> AllocatePlan
     if tag.t0 != g.head {
         return AllocatePlan::Refused(Refusal::Damage(Verdict::BadTag));
     }
-    let pattern = tag.pattern();
-    match pattern {
-        Pattern::Neither => AllocatePlan::Refused(Refusal::Damage(Verdict::BadTag)),
-        Pattern::Allocated => AllocatePlan::Refused(Refusal::Damage(Verdict::OnChain)),
-        Pattern::Free => if_free(judge::judge_free(f, chunk), p),
+    if tag.is_free() {
+        return if_free(judge::judge_free(f, chunk), p);
     }
+    if tag.is_allocated() {
+        return AllocatePlan::Refused(Refusal::Damage(Verdict::OnChain));
+    }
+    AllocatePlan::Refused(Refusal::Damage(Verdict::BadTag))
 }
 
 // The step before it: the head must be a record's address, and that record's word a buffer's.
@@ -104,7 +106,9 @@ fn take(heap: &[u8], records: &[u8], g: Sheet, grant: Grant) -> AllocatePlan
     requires { ⌜ Open (length (now heap)) (length (now records)) g ⌝ }
     ensures { λ r. ⌜ r ≡ takenOf (imageIn g (heap .entry) (records .entry)) grant ⌝ }
 {
-    if lawful_size(grant, g.size) {
+    let f = g.format;
+    let p = f.profile;
+    if lawful_size(p, grant, g.size) {
         if g.head == 0 {
             return AllocatePlan::Refused(Refusal::NoRoom);
         }
@@ -114,10 +118,10 @@ fn take(heap: &[u8], records: &[u8], g: Sheet, grant: Grant) -> AllocatePlan
 }
 
 // What an allocation will do. It only reads.
-fn plan(sheet: &[u8], heap: &[u8], records: &[u8], grant: Grant) -> AllocatePlan
-    ensures { λ r. ⌜ r ≡ allocatePlan (before sheet heap records) grant ⌝ }
+fn plan(profile: Profile, sheet: &[u8], heap: &[u8], records: &[u8], grant: Grant) -> AllocatePlan
+    ensures { λ r. ⌜ r ≡ allocatePlan profile (before sheet heap records) grant ⌝ }
 {
-    let opened = opening::open(sheet, heap.len(), records.len());
+    let opened = opening::open(profile, sheet, heap.len(), records.len());
     match opened {
         Opened::Refused(why) => AllocatePlan::Refused(why),
         Opened::Sheet(g) => take(heap, records, g, grant),
@@ -145,6 +149,7 @@ fn commit(
 
 // Grants a buffer and answers its address, or refuses and leaves every byte as it was.
 pub fn allocate(
+    profile: Profile,
     sheet: &mut [u8],
     heap: &mut [u8],
     records: &mut [u8],
@@ -152,9 +157,9 @@ pub fn allocate(
     stamp: Stamp,
 ) -> Answer
     ensures { λ r. ⌜ result r (after sheet heap records)
-        ≡ allocateOf (before sheet heap records) grant stamp ⌝ }
+        ≡ allocateOf profile (before sheet heap records) grant stamp ⌝ }
 {
-    let planned = plan(sheet, heap, records, grant);
+    let planned = plan(profile, sheet, heap, records, grant);
     match planned {
         AllocatePlan::Refused(why) => Answer::Refused(why),
         AllocatePlan::Take(p) => {

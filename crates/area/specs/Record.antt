@@ -1,17 +1,23 @@
 -- The format of a record. Assumes nothing.
 use mathlib.Core.List.{List, _++_}
-use Prim.Native.Nat.{ℕ, _+_, _-_, _*_, _/_, _%_}
+use Prim.Native.Nat.{ℕ, _+_, _-_, _*_, _/_, _%_, _≤_}
 use lib.ListN.{replicate}
 use lib.Seq.{sets}
 use Rattle.words.specs.Word.{bytesOf, numberAt}
-use Rattle.tags.specs.Format.{wordBytes, wordAt}
+use Rattle.tags.specs.Format.{byProfile, wordBytes, wordAt}
 use Rattle.tags.specs.declared.format.Format.{Format}
+use Rattle.tags.specs.declared.format.Profile.{Profile}
 use Rattle.area.specs.declared.record.Stamp.{Stamp}
 
--- A2 (a record has 96 bytes), A3 (the offsets of its words)
-abbrev pub recordSize : ℕ
-recordSize = 96
+-- A2, U2 (a record has 96 bytes, or in userland's profile 100)
+unfoldable pub recordSize : Profile → ℕ
+recordSize p = byProfile p 96 100
 
+-- A2 (record j lies in an area of so many bytes)
+abbrev pub RecordIn : Profile → ℕ → ℕ → Type 0
+RecordIn p j len = j * recordSize p + recordSize p ≤ len
+
+-- A3 (the offsets of its words)
 abbrev pub nextAt : ℕ
 nextAt = 0
 
@@ -26,7 +32,7 @@ threadAt = 24
 
 -- A2, A3 (the word at an offset of record j)
 unfoldable pub recordWord : Format → List ℕ → ℕ → ℕ → ℕ
-recordWord f records j offset = wordAt f records (j * recordSize + offset)
+recordWord f records j offset = wordAt f records (j * recordSize (f .profile) + offset)
 
 -- A3 (the next word of record j)
 abbrev pub nextWord : Format → List ℕ → ℕ → ℕ
@@ -38,7 +44,7 @@ addressWord f records j = recordWord f records j bufferAt
 
 -- A3 (the timestamp of record j, one number of eight bytes), its high half and its low half
 unfoldable pub stampNumber : Format → List ℕ → ℕ → ℕ
-stampNumber f records j = numberAt (f .order) 8 records (j * recordSize + stampAt)
+stampNumber f records j = numberAt (f .order) 8 records (j * recordSize (f .profile) + stampAt)
 
 abbrev pub highHalf : ℕ → ℕ
 highHalf stamp = stamp / 4294967296
@@ -52,14 +58,14 @@ stampOf uptime thread = record { uptime = uptime; thread = thread }
 
 -- K7 (the next word), in record j
 unfoldable pub withNext : Format → List ℕ → ℕ → ℕ → List ℕ
-withNext f records j next = sets records (j * recordSize + nextAt) (wordBytes f next)
+withNext f records j next = sets records (j * recordSize (f .profile) + nextAt) (wordBytes f next)
 
 -- K8 (the stamp: timestamp, whose high half is 0 since an uptime is a word, and thread), in record j
 unfoldable pub stamped : Format → List ℕ → ℕ → Stamp → List ℕ
 stamped f records j s =
-    sets (sets records (j * recordSize + stampAt) (bytesOf (f .order) 8 (s .uptime))) (j * recordSize + threadAt) (wordBytes f (s .thread))
+    sets (sets records (j * recordSize (f .profile) + stampAt) (bytesOf (f .order) 8 (s .uptime))) (j * recordSize (f .profile) + threadAt) (wordBytes f (s .thread))
 
 -- K4 (the bytes of a record that is laid out): next at 0, buffer address 4, slab 8, cache 12, and 0 up to its end
 unfoldable pub recordBytes : Format → ℕ → ℕ → ℕ → List ℕ
 recordBytes f next buffer cache =
-    wordBytes f next ++ wordBytes f buffer ++ wordBytes f 0 ++ wordBytes f cache ++ replicate (recordSize - stampAt) 0
+    wordBytes f next ++ wordBytes f buffer ++ wordBytes f 0 ++ wordBytes f cache ++ replicate (recordSize (f .profile) - stampAt) 0

@@ -2,6 +2,7 @@
 use mathlib.Core.List.{List}
 use Prim.Native.Nat.{ℕ}
 use lib.ListN.{getD, replicate}
+use Rattle.tags.specs.declared.format.Profile.{Profile}
 use Rattle.tags.specs.declared.verdict.Verdict.the-variants.{Whole}
 use Rattle.sheet.specs.Areas.{Areas}
 use Rattle.image.specs.Inspect.{inspectOf}
@@ -16,5 +17,5 @@ abbrev pub blanks : List Finding
 blanks = replicate 4 blank
 
 -- the answer, and row k, of an inspection into four such rows
-abbrev pub seenOf : Areas → ℕ → Seen
-seenOf a k = record { answer = inspectOf a blanks .answer; finding = getD (inspectOf a blanks .rows) k blank }
+abbrev pub seenOf : Profile → Areas → ℕ → Seen
+seenOf p a k = record { answer = inspectOf p a blanks .answer; finding = getD (inspectOf p a blanks .rows) k blank }

@@ -2,7 +2,6 @@
 use crate::findings;
 use crate::lines;
 use allocation::allocate;
-use area::record;
 use area::record::Stamp;
 use chunks::chunk::Grant;
 use client::show;
@@ -11,6 +10,7 @@ use client::store;
 use image::inspect::Finding;
 use sheet::fields;
 use tags::format::Format;
+use tags::format::Profile;
 use tags::refusal::Answer;
 use tags::verdict;
 use transactions::latest;
@@ -18,12 +18,10 @@ use transactions::latest::Transaction;
 use window::Word;
 use words::word;
 
-// The areas of an image of three buffers of 24 bytes, and a log of three rows.
+// The areas of an image of three buffers of 24 bytes but for the records, whose length is told by the profile, and a log of three rows.
 pub(crate) type SheetArea = [u8; fields::LENGTH];
 
 pub(crate) type HeapArea = [u8; 3 * 40];
-
-pub(crate) type RecordArea = [u8; 3 * record::SIZE];
 
 pub(crate) type Log = [u8; 3 * log::ROW];
 
@@ -53,53 +51,57 @@ fn put_allocated(answer: Answer) {
 
 // Allocates.
 pub(crate) fn allocate(
+    profile: Profile,
     sheet: &mut SheetArea,
     heap: &mut HeapArea,
-    records: &mut RecordArea,
+    records: &mut [u8],
     grant: Grant,
     uptime: u32,
     thread: u32,
 ) {
     let stamp = Stamp { uptime, thread };
-    let answer = allocate::allocate(sheet, heap, records, grant, stamp);
+    let answer = allocate::allocate(profile, sheet, heap, records, grant, stamp);
     put_allocated(answer);
 }
 
 // Frees.
 pub(crate) fn free(
+    profile: Profile,
     sheet: &mut SheetArea,
     heap: &mut HeapArea,
-    records: &mut RecordArea,
+    records: &mut [u8],
     address: u32,
     grant: Grant,
     uptime: u32,
     thread: u32,
 ) {
     let stamp = Stamp { uptime, thread };
-    let answer = free::free(sheet, heap, records, address, grant, stamp);
+    let answer = free::free(profile, sheet, heap, records, address, grant, stamp);
     put_outcome(b"free", answer);
 }
 
 // Stores.
 pub(crate) fn store(
+    profile: Profile,
     sheet: &SheetArea,
     heap: &mut HeapArea,
-    records: &RecordArea,
+    records: &[u8],
     address: u32,
     offset: u32,
     bytes: &[u8],
 ) {
-    let answer = store::store(sheet, heap, records, address, offset, bytes);
+    let answer = store::store(profile, sheet, heap, records, address, offset, bytes);
     put_outcome(b"store", answer);
 }
 
-// The line that says where the client's bytes are.
+// The line that says where the buffer stands in the heap, where in it the client's bytes start, and how many they are.
 fn put_shown(answer: Shown) {
     lines::put_word(b"find_client");
     match answer {
         Shown::Refused(why) => lines::put_refusal(why),
-        Shown::Client(at, len) => {
-            lines::put_number(at as u64);
+        Shown::Client(buffer, start, len) => {
+            lines::put_number(buffer as u64);
+            lines::put_number(start as u64);
             lines::put_number(len as u64);
             lines::end();
         }
@@ -107,10 +109,16 @@ fn put_shown(answer: Shown) {
 }
 
 // Shows: where the client's bytes are, and the bytes.
-pub(crate) fn show(sheet: &SheetArea, heap: &HeapArea, records: &RecordArea, address: u32) {
-    put_shown(show::find_client(sheet, heap, records, address));
+pub(crate) fn show(
+    profile: Profile,
+    sheet: &SheetArea,
+    heap: &HeapArea,
+    records: &[u8],
+    address: u32,
+) {
+    put_shown(show::find_client(profile, sheet, heap, records, address));
     lines::put_word(b"show");
-    let part = show::show(sheet, heap, records, address);
+    let part = show::show(profile, sheet, heap, records, address);
     lines::put_bytes(part);
 }
 
@@ -134,16 +142,17 @@ fn put_transaction(answer: Transaction) {
 
 // Where the latest transaction of a buffer stands, and its bytes.
 pub(crate) fn latest<'a>(
+    profile: Profile,
     sheet: &SheetArea,
     heap: &HeapArea,
-    records: &'a RecordArea,
+    records: &'a [u8],
     log: &'a Log,
     index: u32,
     time: u32,
 ) {
-    put_transaction(latest::find_latest(sheet, heap, records, log, index, time));
+    put_transaction(latest::find_latest(profile, sheet, heap, records, log, index, time));
     lines::put_word(b"latest");
-    let part = latest::latest(sheet, heap, records, log, index, time);
+    let part = latest::latest(profile, sheet, heap, records, log, index, time);
     lines::put_bytes(part);
 }
 
@@ -170,13 +179,13 @@ fn put_finding(f: Finding) {
 }
 
 // Inspects, and tells what the call answered and each row of its findings.
-pub(crate) fn inspect(sheet: &SheetArea, heap: &HeapArea, records: &RecordArea) {
-    let first = findings::look(sheet, heap, records, 0);
+pub(crate) fn inspect(profile: Profile, sheet: &SheetArea, heap: &HeapArea, records: &[u8]) {
+    let first = findings::look(profile, sheet, heap, records, 0);
     let answer = first.answer;
     put_inspected(answer);
     let mut k = 0;
     while k < 4 {
-        let found = findings::look(sheet, heap, records, k);
+        let found = findings::look(profile, sheet, heap, records, k);
         let f = found.finding;
         put_finding(f);
         k += 1;

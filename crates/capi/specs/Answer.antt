@@ -1,4 +1,4 @@
--- One number for each answer: bits 0 to 7 the refusal's number, 8 to 15 its detail, 32 to 63 the value. Assumes nothing.
+-- One number for each answer: bits 0 to 7 the refusal's number, 8 to 15 its detail, 16 to 31 where shown bytes start, 32 to 63 the value. Assumes nothing.
 use mathlib.Core.Bool.{Bool, true, false}
 use Prim.Native.Nat.{ℕ, _+_, _*_}
 use Rattle.chunks.specs.declared.chunk.Grant.{Grant}
@@ -31,9 +31,12 @@ latestWord (transaction.Row k) = acceptedWord k
 latestWord (transaction.Record j) = acceptedWord (0x80000000 + j)
 latestWord (transaction.Refused why) = refusedWord why
 
--- F2 (the number of the client's bytes)
+-- F2, F7 (the number of the client's bytes, and where in the buffer they start)
+abbrev pub shownWord : ℕ → ℕ → ℕ
+shownWord start len = acceptedWord len + start * 65536
+
 abbrev pub showWord : Shown → ℕ
-showWord (shown.Client at len) = acceptedWord len
+showWord (shown.Client buffer start len) = shownWord start len
 showWord (shown.Refused why) = refusedWord why
 
 -- F3 (where `whole` is true, `size` is not read)

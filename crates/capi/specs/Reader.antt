@@ -2,6 +2,7 @@
 use mathlib.Core.List.{List, [], _∷_}
 use Prim.Native.Nat.{ℕ}
 use lib.Seq.{sets}
+use Rattle.tags.specs.declared.format.Profile.{Profile}
 use Rattle.tags.specs.declared.refusal.Answer.{Answer}
 use Rattle.tags.specs.declared.refusal.Answer.the-variants.{Refused}
 use Rattle.tags.specs.Refusal.{done}
@@ -19,8 +20,8 @@ lengthsIn row (lengths.Areas heap records) = ifRoom 2 row (filling done (sets ro
 lengthsIn row (lengths.Refused why) = unfilled (Refused why) row
 
 -- F4 (X1 and X2, then X11)
-unfoldable pub areaLengthsOf : List ℕ → List ℕ → Filling Answer ℕ
-areaLengthsOf s row = lengthsIn row (lengthsOf s)
+unfoldable pub areaLengthsOf : Profile → List ℕ → List ℕ → Filling Answer ℕ
+areaLengthsOf p s row = lengthsIn row (lengthsOf p s)
 
 -- F5 (the survey): the rows and the chain, with the answer as one number
 abbrev pub surveyWord : Numbered Answer → Numbered ℕ

@@ -1,6 +1,7 @@
 // The one number that every function returns.
 ghost use mathlib.Core.Path.{_≡_};
-ghost use Rattle.capi.specs.Answer.{acceptedWord, refusedWord, answerWord};
+ghost use Prim.Native.Nat.{_<_};
+ghost use Rattle.capi.specs.Answer.{acceptedWord, shownWord, refusedWord, answerWord};
 use tags::refusal;
 use tags::refusal::Answer;
 use tags::refusal::Refusal;
@@ -10,6 +11,14 @@ pub(crate) fn accepted(value: u32) -> u64
     ensures { λ r. ⌜ r ≡ acceptedWord value ⌝ }
 {
     (value as u64) * 4294967296
+}
+
+// What an accepted show returns: where in the buffer the client's bytes start, and how many they are.
+pub(crate) fn shown(start: u32, len: u32) -> u64
+    requires { ⌜ start < 65536 ⌝ }
+    ensures { λ r. ⌜ r ≡ shownWord start len ⌝ }
+{
+    accepted(len) + (start as u64) * 65536
 }
 
 // What a refused call returns.

@@ -1,6 +1,6 @@
 // The calls that a client makes.
 ghost use mathlib.Core.Path.{_≡_};
-ghost use Rattle.tags.specs.Format.{formatIf};
+ghost use Rattle.tags.specs.Format.{profileIf, formatIf};
 ghost use Rattle.area.specs.Record.{stampOf};
 ghost use Rattle.sheet.specs.Areas.{before, after, result, answered};
 ghost use Rattle.layout.specs.Layout.{layOutOf};
@@ -17,6 +17,7 @@ use chunks::chunk::Grant;
 use client::show;
 use client::show::Shown;
 use client::store;
+use tags::format;
 use tags::format::Format;
 
 // What is asked for: where it is the whole buffer, the size is not read.
@@ -29,9 +30,10 @@ fn grant(whole: bool, size: u32) -> Grant
     Grant::Sized(size)
 }
 
-// Lays out an image in which every buffer is free, its words low byte first or high byte first.
+// Lays out an image in which every buffer is free, by the rules of a profile, its words low byte first or high byte first.
 #[no_mangle]
 pub extern "C" fn cg_lay_out(
+    userland: bool,
     low_first: bool,
     cache: u32,
     heap_base: u32,
@@ -44,10 +46,10 @@ pub extern "C" fn cg_lay_out(
 ) -> u64
     ensures { λ r. ⌜ result r (after sheet heap records)
         ≡ answered answerWord
-        (layOutOf (before sheet heap records) (formatIf «low_first»)
+        (layOutOf (before sheet heap records) (formatIf userland «low_first»)
         cache «heap_base» «record_base» size count) ⌝ }
 {
-    let f = Format::of(low_first);
+    let f = Format::of(userland, low_first);
     answer::word(layout::lay_out(
         f,
         cache,
@@ -64,6 +66,7 @@ pub extern "C" fn cg_lay_out(
 // Grants a buffer. The value is its address.
 #[no_mangle]
 pub extern "C" fn cg_allocate(
+    userland: bool,
     sheet: &mut [u8],
     heap: &mut [u8],
     records: &mut [u8],
@@ -74,16 +77,19 @@ pub extern "C" fn cg_allocate(
 ) -> u64
     ensures { λ r. ⌜ result r (after sheet heap records)
         ≡ answered answerWord
-        (allocateOf (before sheet heap records) (grantOf whole size) (stampOf uptime thread)) ⌝ }
+        (allocateOf (profileIf userland) (before sheet heap records)
+        (grantOf whole size) (stampOf uptime thread)) ⌝ }
 {
+    let profile = format::profile_if(userland);
     let asked = grant(whole, size);
     let granted = Stamp { uptime, thread };
-    answer::word(allocate::allocate(sheet, heap, records, asked, granted))
+    answer::word(allocate::allocate(profile, sheet, heap, records, asked, granted))
 }
 
 // Frees the buffer at an address.
 #[no_mangle]
 pub extern "C" fn cg_free(
+    userland: bool,
     sheet: &mut [u8],
     heap: &mut [u8],
     records: &mut [u8],
@@ -95,16 +101,19 @@ pub extern "C" fn cg_free(
 ) -> u64
     ensures { λ r. ⌜ result r (after sheet heap records)
         ≡ answered answerWord
-        (freeOf (before sheet heap records) address (grantOf whole size) (stampOf uptime thread)) ⌝ }
+        (freeOf (profileIf userland) (before sheet heap records)
+        address (grantOf whole size) (stampOf uptime thread)) ⌝ }
 {
+    let profile = format::profile_if(userland);
     let given = grant(whole, size);
     let freed = Stamp { uptime, thread };
-    answer::word(free::free(sheet, heap, records, address, given, freed))
+    answer::word(free::free(profile, sheet, heap, records, address, given, freed))
 }
 
-// Stores bytes at an offset in the buffer at an address.
+// Stores bytes at an offset in the client's bytes of the buffer at an address.
 #[no_mangle]
 pub extern "C" fn cg_store(
+    userland: bool,
     sheet: &[u8],
     heap: &mut [u8],
     records: &[u8],
@@ -113,22 +122,31 @@ pub extern "C" fn cg_store(
     bytes: &[u8],
 ) -> u64
     ensures { λ r. ⌜ result r (after sheet heap records)
-        ≡ answered answerWord (storeOf (before sheet heap records) address offset (now (bytes .entry))) ⌝ }
+        ≡ answered answerWord
+        (storeOf (profileIf userland) (before sheet heap records) address offset (now (bytes .entry))) ⌝ }
 {
-    answer::word(store::store(sheet, heap, records, address, offset, bytes))
+    let profile = format::profile_if(userland);
+    answer::word(store::store(profile, sheet, heap, records, address, offset, bytes))
 }
 
-// Counts the client's bytes of the buffer at an address. The value is their number. Where they start follows from the address: in
-// the heap at the address less the heap's base.
+// Counts the client's bytes of the buffer at an address. The value is their number; bits 16 to 31 say where in the buffer they
+// start. The buffer itself stands in the heap at the address less the heap's base.
 #[no_mangle]
-pub extern "C" fn cg_show(sheet: &[u8], heap: &[u8], records: &[u8], address: u32) -> u64
-    ensures answer { λ r. ⌜ r ≡ showWord (shownOf (before sheet heap records) address) ⌝ }
-    ensures starts { λ _. ⌜ StartsAt (sheetOf (now (sheet .entry)) .«heap_base») address
-        (shownOf (before sheet heap records) address) ⌝ }
+pub extern "C" fn cg_show(
+    userland: bool,
+    sheet: &[u8],
+    heap: &[u8],
+    records: &[u8],
+    address: u32,
+) -> u64
+    ensures answer { λ r. ⌜ r ≡ showWord (shownOf (profileIf userland) (before sheet heap records) address) ⌝ }
+    ensures starts { λ _. ⌜ StartsAt (sheetOf (profileIf userland) (now (sheet .entry)) .«heap_base») address
+        (shownOf (profileIf userland) (before sheet heap records) address) ⌝ }
 {
-    let c = show::find_client(sheet, heap, records, address);
+    let profile = format::profile_if(userland);
+    let c = show::find_client(profile, sheet, heap, records, address);
     match c {
         Shown::Refused(why) => answer::refused(why),
-        Shown::Client(_, len) => answer::accepted(len as u32),
+        Shown::Client(_, start, len) => answer::shown(start as u32, len as u32),
     }
 }

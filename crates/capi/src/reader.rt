@@ -2,6 +2,7 @@
 ghost use mathlib.Core.Path.{_≡_};
 ghost use lib.ListN.{length};
 ghost use Rattle.tags.specs.Filling.{filling, told};
+ghost use Rattle.tags.specs.Format.{profileIf};
 ghost use Rattle.sheet.specs.Areas.{before};
 ghost use Rattle.survey.specs.Table.{tabulateOf};
 ghost use Rattle.survey.specs.Numbers.{numbering, surveyNumbersOf};
@@ -17,17 +18,19 @@ use sheet::opening;
 use sheet::opening::Lengths;
 use survey::numbers;
 use survey::table;
+use tags::format;
 use tags::refusal::Refusal;
 use transactions::latest;
 use transactions::latest::Transaction;
 
 // Writes the heap's length and the record area's, as the sheet has them. The value is 0.
 #[no_mangle]
-pub extern "C" fn cg_area_lengths(sheet: &[u8], lengths: &mut [u32]) -> u64
+pub extern "C" fn cg_area_lengths(userland: bool, sheet: &[u8], lengths: &mut [u32]) -> u64
     ensures { λ r. ⌜ filling r (now (lengths .exit))
-        ≡ told answerWord (areaLengthsOf (now (sheet .entry)) (now (lengths .entry))) ⌝ }
+        ≡ told answerWord (areaLengthsOf (profileIf userland) (now (sheet .entry)) (now (lengths .entry))) ⌝ }
 {
-    let asked = opening::area_lengths(sheet);
+    let profile = format::profile_if(userland);
+    let asked = opening::area_lengths(profile, sheet);
     match asked {
         Lengths::Refused(why) => refused(why),
         Lengths::Areas(heap, records) => {
@@ -43,17 +46,25 @@ pub extern "C" fn cg_area_lengths(sheet: &[u8], lengths: &mut [u32]) -> u64
 
 // Fills three numbers for each buffer: index, verdict number, size or offset. The value is the number of buffers.
 #[no_mangle]
-pub extern "C" fn cg_inspect(sheet: &[u8], heap: &[u8], records: &[u8], rows: &mut [u32]) -> u64
+pub extern "C" fn cg_inspect(
+    userland: bool,
+    sheet: &[u8],
+    heap: &[u8],
+    records: &[u8],
+    rows: &mut [u32],
+) -> u64
     ensures { λ r. ⌜ filling r (now (rows .exit))
-        ≡ told answerWord (tabulateOf (before sheet heap records) (now (rows .entry))) ⌝ }
+        ≡ told answerWord (tabulateOf (profileIf userland) (before sheet heap records) (now (rows .entry))) ⌝ }
 {
-    word(table::tabulate(sheet, heap, records, rows))
+    let profile = format::profile_if(userland);
+    word(table::tabulate(profile, sheet, heap, records, rows))
 }
 
 // Fills the same numbers of an image with a log, and three of the chain: records met, ending, the record that it came back to.
 // The value is the number of buffers.
 #[no_mangle]
 pub extern "C" fn cg_survey(
+    userland: bool,
     sheet: &[u8],
     heap: &[u8],
     records: &[u8],
@@ -62,15 +73,17 @@ pub extern "C" fn cg_survey(
     chain: &mut [u32],
 ) -> u64
     ensures { λ r. ⌜ numbering r (now (rows .exit)) (now (chain .exit))
-        ≡ surveyWord (surveyNumbersOf (before sheet heap records) (length (now (log .entry)))
-        (now (rows .entry)) (now (chain .entry))) ⌝ }
+        ≡ surveyWord (surveyNumbersOf (profileIf userland) (before sheet heap records)
+        (length (now (log .entry))) (now (rows .entry)) (now (chain .entry))) ⌝ }
 {
-    word(numbers::survey_numbers(sheet, heap, records, log, rows, chain))
+    let profile = format::profile_if(userland);
+    word(numbers::survey_numbers(profile, sheet, heap, records, log, rows, chain))
 }
 
 // Finds the latest transaction of a buffer. The value is the log row's number, or 0x80000000 plus the record's index.
 #[no_mangle]
 pub extern "C" fn cg_latest(
+    userland: bool,
     sheet: &[u8],
     heap: &[u8],
     records: &[u8],
@@ -78,9 +91,11 @@ pub extern "C" fn cg_latest(
     index: u32,
     time: u32,
 ) -> u64
-    ensures { λ r. ⌜ r ≡ latestWord (latestOf (before sheet heap records) (now (log .entry)) index time) ⌝ }
+    ensures { λ r. ⌜ r ≡ latestWord
+        (latestOf (profileIf userland) (before sheet heap records) (now (log .entry)) index time) ⌝ }
 {
-    let t = latest::find_latest(sheet, heap, records, log, index, time);
+    let profile = format::profile_if(userland);
+    let t = latest::find_latest(profile, sheet, heap, records, log, index, time);
     match t {
         Transaction::Refused(why) => refused(why),
         Transaction::Row(k) => accepted(k as u32),
@@ -91,6 +106,7 @@ pub extern "C" fn cg_latest(
 // Writes the report to the output's start. The value is the length filled.
 #[no_mangle]
 pub extern "C" fn cg_report(
+    userland: bool,
     sheet: &[u8],
     heap: &[u8],
     records: &[u8],
@@ -98,8 +114,9 @@ pub extern "C" fn cg_report(
     output: &mut [u8],
 ) -> u64
     ensures { λ r. ⌜ filling r (now (output .exit))
-        ≡ told answerWord (reportOf (before sheet heap records) (length (now (log .entry)))
-        (now (output .entry))) ⌝ }
+        ≡ told answerWord (reportOf (profileIf userland) (before sheet heap records)
+        (length (now (log .entry))) (now (output .entry))) ⌝ }
 {
-    word(answer::report(sheet, heap, records, log, output))
+    let profile = format::profile_if(userland);
+    word(answer::report(profile, sheet, heap, records, log, output))
 }

@@ -10,6 +10,7 @@ use borrow.Author.Tests.{eq-eqb, ne-eqb}
 use lib.ListN.{length}
 use Rattle.area.specs.Place.{placeAddress, placeOf}
 use Rattle.area.specs.Record.{recordSize, nextWord}
+use Rattle.area.proofs.Records.{record-least}
 use Rattle.chain.specs.Chain.{occ, Chain, stop, meets, ChainRule, chainFrom, chainAfter, chainIn}
 use Rattle.chain.specs.Walk.{toOne, areaOf, ofPlace, endingAt, wordValues, Gives}
 use Rattle.geometry.specs.Limits.{SizesOf}
@@ -102,10 +103,11 @@ module _ (next : ℕ → ℕ) (at : ℕ → Place) where
 
 -- ---- linked lists
 
--- the word w is the address of the first of the records l, the next word of each that of the one after it, and the last next word is 0
-unfoldable pub Linked : (ℕ → ℕ) → ℕ → ℕ → ℕ → List ℕ → Type 0
-Linked next base n w [] = w ≡ 0
-Linked next base n w (i ∷ l) = (i < n) × ((w ≡ placeAddress base recordSize i) × Linked next base n (next i) l)
+-- the word w is the address of the first of the records l, of n records of `size` bytes, the next word of each that of the one after it, and the last next
+-- word is 0
+unfoldable pub Linked : (ℕ → ℕ) → ℕ → ℕ → ℕ → ℕ → List ℕ → Type 0
+Linked next base size n w [] = w ≡ 0
+Linked next base size n w (i ∷ l) = (i < n) × ((w ≡ placeAddress base size i) × Linked next base size n (next i) l)
 
 -- ---- the chain from a word
 
@@ -125,40 +127,40 @@ once-more seen i l m j h (no d) =
     omega (arith, occ-apart j i l d)
 
 module _ (f : Format) (records : List ℕ) (base n : ℕ) where
-  within : (w i : ℕ) → placeOf base recordSize n w ≡ At i → i < n
-  within w i e = place-found base recordSize n w i e .0
+  within : (w i : ℕ) → placeOf base (recordSize (f .profile)) n w ≡ At i → i < n
+  within w i e = place-found base (recordSize (f .profile)) n w i e .0
 
   -- The rule, with no bound on the steps.
   module _ (seen : List ℕ) (w : ℕ) where
     pub chain-end : w ≡ 0 → chainAfter f records base n seen w ≡ stop End
     unfolding chainAfter
-    chain-end = from-end (nextWord f records) (placeOf base recordSize n) n seen w
+    chain-end = from-end (nextWord f records) (placeOf base (recordSize (f .profile)) n) n seen w
 
-    pub chain-broken : w ≢ 0 → placeOf base recordSize n w ≡ Nowhere → chainAfter f records base n seen w ≡ stop Broken
+    pub chain-broken : w ≢ 0 → placeOf base (recordSize (f .profile)) n w ≡ Nowhere → chainAfter f records base n seen w ≡ stop Broken
     unfolding chainAfter
-    chain-broken = from-broken (nextWord f records) (placeOf base recordSize n) n seen w
+    chain-broken = from-broken (nextWord f records) (placeOf base (recordSize (f .profile)) n) n seen w
 
-    pub chain-again : (i : ℕ) → w ≢ 0 → placeOf base recordSize n w ≡ At i → occ i seen ≢ 0 → chainAfter f records base n seen w ≡ stop (Again i)
+    pub chain-again : (i : ℕ) → w ≢ 0 → placeOf base (recordSize (f .profile)) n w ≡ At i → occ i seen ≢ 0 → chainAfter f records base n seen w ≡ stop (Again i)
     unfolding chainAfter
-    chain-again = from-again (nextWord f records) (placeOf base recordSize n) n seen w
+    chain-again = from-again (nextWord f records) (placeOf base (recordSize (f .profile)) n) n seen w
 
-    pub chain-meets : (i : ℕ) → w ≢ 0 → placeOf base recordSize n w ≡ At i → occ i seen ≡ 0
+    pub chain-meets : (i : ℕ) → w ≢ 0 → placeOf base (recordSize (f .profile)) n w ≡ At i → occ i seen ≡ 0
         → chainAfter f records base n seen w ≡ meets i (chainAfter f records base n (i ∷ seen) (nextWord f records i))
     unfolding chainAfter
     chain-meets i z e m =
         let h = left-fewer n i seen (within w i e) m in
         let a = left-most n seen in
-        from-meets (nextWord f records) (placeOf base recordSize n) n seen w i z e m
+        from-meets (nextWord f records) (placeOf base (recordSize (f .profile)) n) n seen w i z e m
         ∙ ap (meets i)
-        (enough (nextWord f records) (placeOf base recordSize n) n within (suc n) n (i ∷ seen) (nextWord f records i) (omega arith) (omega arith))
+        (enough (nextWord f records) (placeOf base (recordSize (f .profile)) n) n within (suc n) n (i ∷ seen) (nextWord f records i) (omega arith) (omega arith))
 
   -- what the rule hands on from step to step holds of every chain
-  pub chain-by : (P : List ℕ → ℕ → Chain → Type 0) → Steps (nextWord f records) (placeOf base recordSize n) P
+  pub chain-by : (P : List ℕ → ℕ → Chain → Type 0) → Steps (nextWord f records) (placeOf base (recordSize (f .profile)) n) P
       → (seen : List ℕ) (w : ℕ) → P seen w (chainAfter f records base n seen w)
   unfolding chainAfter
   chain-by P s seen w =
       let a = left-most n seen in
-      by-rule (nextWord f records) (placeOf base recordSize n) n within P s (suc n) seen w (omega arith)
+      by-rule (nextWord f records) (placeOf base (recordSize (f .profile)) n) n within P s (suc n) seen w (omega arith)
 
   -- and, of the records met, what holds of none and is kept by one more
   pub met-by : (P : List ℕ → List ℕ → Type 0) → ((seen : List ℕ) → P seen [])
@@ -174,7 +176,7 @@ module _ (f : Format) (records : List ℕ) (base n : ℕ) where
       })
 
   -- the chain from a word, with those records met already, is that of the rule
-  pub chain-rule : ChainRule (nextWord f records) (placeOf base recordSize n) (chainAfter f records base n)
+  pub chain-rule : ChainRule (nextWord f records) (placeOf base (recordSize (f .profile)) n) (chainAfter f records base n)
   chain-rule = record {
     ends = λ seen. chain-end seen 0 refl;
     breaks = chain-broken;
@@ -183,14 +185,14 @@ module _ (f : Format) (records : List ℕ) (base n : ℕ) where
   }
 
   -- a list of records, none of them twice and none met already, that are linked from the word w down to 0
-  linked-after : base ≢ 0 → (l seen : List ℕ) (w : ℕ) → Linked (nextWord f records) base n w l → ((i : ℕ) → occ i seen + occ i l ≤ 1)
+  linked-after : base ≢ 0 → (l seen : List ℕ) (w : ℕ) → Linked (nextWord f records) base (recordSize (f .profile)) n w l → ((i : ℕ) → occ i seen + occ i l ≤ 1)
       → chainAfter f records base n seen w ≡ record { met = l; ending = End }
   unfolding Linked
   linked-after b [] seen w r d = chain-end seen w r
   linked-after b (i ∷ l) seen w r d =
       let z : w ≢ 0 = (λ z. b (let e = r .1 .0 in omega arith)) in
       let o = d i in
-      chain-meets seen w i z (place-at base recordSize n w i (omega arith) (r .0) (r .1 .0)) (omega (arith, occ-here i l))
+      chain-meets seen w i z (place-at base (recordSize (f .profile)) n w i (omega (arith, record-least (f .profile))) (r .0) (r .1 .0)) (omega (arith, occ-here i l))
       ∙ ap (meets i) (linked-after b l (i ∷ seen) (nextWord f records i) (r .1 .1) (λ j. let o = d j in omega (arith, occ-cons j i seen, occ-cons j i l)))
 
 -- ---- the chain of a sheet's records
@@ -251,58 +253,59 @@ module _ (g : Sheet) (records : List ℕ) where
       go (Again i) q = chain-again-below i q
 
   -- a list of records, none of them twice, that are linked from the head down to 0 is the chain
-  pub linked-chain : g .«record_base» ≢ 0 → (l : List ℕ) → Linked (nextWord (g .format) records) (g .«record_base») (g .count) (g .head) l
+  pub linked-chain : g .«record_base» ≢ 0 → (l : List ℕ) → Linked (nextWord (g .format) records) (g .«record_base») (recordSize (g .format .profile)) (g .count) (g .head) l
       → ((i : ℕ) → occ i l ≤ 1) → chainIn g records ≡ record { met = l; ending = End }
   linked-chain b l r d =
       chain-whole g records
       ∙ linked-after (g .format) records (g .«record_base») (g .count) b l [] (g .head) r (λ i. let o = d i in omega (arith, occ-none i))
 
 -- the links of a list are the same where the next words of its records are
-pub linked-same : (f g : ℕ → ℕ) (base n w : ℕ) (l : List ℕ) → ((j : ℕ) → occ j l ≢ 0 → f j ≡ g j) → Linked f base n w l → Linked g base n w l
+pub linked-same : (f g : ℕ → ℕ) (base size n w : ℕ) (l : List ℕ) → ((j : ℕ) → occ j l ≢ 0 → f j ≡ g j) → Linked f base size n w l
+    → Linked g base size n w l
 unfolding Linked
-linked-same f g base n w [] h r = r
-linked-same f g base n w (i ∷ l) h r = (
+linked-same f g base size n w [] h r = r
+linked-same f g base size n w (i ∷ l) h r = (
   r .0,
   (
     r .1 .0,
-    linked-same f g base n (g i) l (λ j m. h j (λ z. m (omega (arith, occ-cons j i l))))
+    linked-same f g base size n (g i) l (λ j m. h j (λ z. m (omega (arith, occ-cons j i l))))
         (rw (h i (λ z. omega (arith, occ-here i l))) at (r .1 .1)),
   ),
 )
 
 -- ---- what a walk gives
 
-module _ (base n w : ℕ) where
-  pub ending-end : w ≡ 0 → endingAt base n w ≡ End
+module _ (base size n w : ℕ) where
+  pub ending-end : w ≡ 0 → endingAt base size n w ≡ End
   unfolding endingAt
   ending-end e = simp (eq-eqb w 0 e)
 
-  pub ending-place : (p : Place) → w ≢ 0 → placeOf base recordSize n w ≡ p → endingAt base n w ≡ ofPlace p
+  pub ending-place : (p : Place) → w ≢ 0 → placeOf base size n w ≡ p → endingAt base size n w ≡ ofPlace p
   unfolding endingAt
   ending-place p z e = simp (ne-eqb w 0 z, e)
 
 -- a walk that stops at once
-pub gives-stop : (c : Chain) (e : Ending) (rest : ℕ → ℕ) (seen : List ℕ) (base n before w r : ℕ) (exit : List ℕ)
-    → c ≡ stop e → r ≡ before * wordValues + w → w < 2 ^ 32 → endingAt base n w ≡ e → exit ≡ areaOf n rest seen
-    → Gives c rest seen base n before r exit
-gives-stop c e rest seen base n before w r exit q ri l t h =
+pub gives-stop : (c : Chain) (e : Ending) (rest : ℕ → ℕ) (seen : List ℕ) (base size n before w r : ℕ) (exit : List ℕ)
+    → c ≡ stop e → r ≡ before * wordValues + w → w < 2 ^ 32 → endingAt base size n w ≡ e → exit ≡ areaOf n rest seen
+    → Gives c rest seen base size n before r exit
+gives-stop c e rest seen base size n before w r exit q ri l t h =
     let d : r / wordValues ≡ before + 0 = omega arith in
     let m : r % wordValues ≡ w = omega arith in
-    rw q (record { met = d; ending = ap (endingAt base n) m ∙ t; marked = h })
+    rw q (record { met = d; ending = ap (endingAt base size n) m ∙ t; marked = h })
 
 -- a walk that meets record i, and goes on
-pub gives-meets : (c d : Chain) (i : ℕ) (rest : ℕ → ℕ) (seen : List ℕ) (base n before r : ℕ) (exit : List ℕ) → c ≡ meets i d
-    → Gives d rest (i ∷ seen) base n (before + 1) r exit → Gives c rest seen base n before r exit
-gives-meets c d i rest seen base n before r exit q g =
+pub gives-meets : (c d : Chain) (i : ℕ) (rest : ℕ → ℕ) (seen : List ℕ) (base size n before r : ℕ) (exit : List ℕ) → c ≡ meets i d
+    → Gives d rest (i ∷ seen) base size n (before + 1) r exit → Gives c rest seen base size n before r exit
+gives-meets c d i rest seen base size n before r exit q g =
     rw q (record { met = g .met ∙ omega arith; ending = g .ending; marked = g .marked ∙ area-mid n rest i (d .met) seen })
 
 -- a walk of the whole chain
-pub gives-all : (g : Sheet) (records : List ℕ) (rest : ℕ → ℕ) (r : ℕ) (exit : List ℕ)
-    → Gives (chainAfter (g .format) records (g .«record_base») (g .count) [] (g .head)) rest [] (g .«record_base») (g .count) 0 r exit →
+pub gives-all : (g : Sheet) (records : List ℕ) (rest : ℕ → ℕ) (size r : ℕ) (exit : List ℕ)
+    → Gives (chainAfter (g .format) records (g .«record_base») (g .count) [] (g .head)) rest [] (g .«record_base») size (g .count) 0 r exit →
     let c = chainIn g records in
     (r / wordValues ≡ length (c .met))
-    × ((endingAt (g .«record_base») (g .count) (r % wordValues) ≡ c .ending) × (exit ≡ areaOf (g .count) rest (c .met)))
-gives-all g records rest r exit w =
+    × ((endingAt (g .«record_base») size (g .count) (r % wordValues) ≡ c .ending) × (exit ≡ areaOf (g .count) rest (c .met)))
+gives-all g records rest size r exit w =
     let c = chainIn g records in
     let h = rw (sym (chain-whole g records)) at w in
     (h .met ∙ zero-add (length (c .met)), (h .ending, h .marked ∙ ap (areaOf (g .count) rest) (append-nil (c .met))))

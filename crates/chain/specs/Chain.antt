@@ -53,7 +53,7 @@ chainFrom next at (suc k) seen w =
 
 -- the same, of the n records in `records` at the address `base`
 unfoldable pub chainAfter : Format → List ℕ → ℕ → ℕ → List ℕ → ℕ → Chain
-chainAfter f records base n seen w = chainFrom (nextWord f records) (placeOf base recordSize n) (suc n) seen w
+chainAfter f records base n seen w = chainFrom (nextWord f records) (placeOf base (recordSize (f .profile)) n) (suc n) seen w
 
 -- H1 (it starts at the head): the whole chain, of the records of a sheet
 unfoldable pub chainIn : Sheet → List ℕ → Chain

@@ -7,8 +7,10 @@ use denote.Ref.{RefT, at-last}
 use lib.Dec.{eqb}
 use lib.ListN.{length}
 use Rattle.area.specs.Place.{placeOf}
-use Rattle.area.specs.Record.{recordSize}
-use Rattle.tags.specs.declared.format.Format.{Format}
+use Rattle.area.specs.Record.{recordSize, nextAt}
+use Rattle.words.specs.declared.word.Order.{Order}
+use Rattle.tags.specs.Format.{formatOf}
+use Rattle.tags.specs.declared.format.Profile.{Profile}
 use Rattle.geometry.specs.declared.sheet.Sheet.{Sheet}
 use Rattle.chain.specs.Chain.{occ, Chain, chainAfter, chainIn}
 use Rattle.area.specs.declared.place.Place.{Place}
@@ -38,8 +40,8 @@ unmet (b ∷ l) = 1 - b % 2 + unmet l
 
 -- a walk of at most 100,000 records of `size` bytes has its marks, a byte for each, and `before` of them are met already
 pub record Walkable (records : List ℕ) (size n : ℕ) (marks : List ℕ) (before : ℕ) : Type 0 where
-  pub stride : size ≡ recordSize
-  pub room : n * recordSize ≤ length records
+  pub wide : nextAt + 4 ≤ size
+  pub room : n * size ≤ length records
   pub most : n ≤ 100000
   pub long : length marks ≡ n
   pub left : before + unmet marks ≤ n
@@ -49,24 +51,26 @@ abbrev pub ofPlace : Place → Ending
 ofPlace (At i) = Again i
 ofPlace Nowhere = Broken
 
--- H2, H3, H4 (how a chain ends that stops at the word w)
-unfoldable pub endingAt : ℕ → ℕ → ℕ → Ending
-endingAt base n w = cond (eqb w 0) End (ofPlace (placeOf base recordSize n w))
+-- H2, H3, H4 (how a chain ends that stops at the word w), of n records of `size` bytes
+unfoldable pub endingAt : ℕ → ℕ → ℕ → ℕ → Ending
+endingAt base size n w = cond (eqb w 0) End (ofPlace (placeOf base size n w))
 
 -- how many values a word has: a walk gives the number of records met times this, and the word at which it stops
 abbrev pub wordValues : ℕ
 wordValues = 4294967296
 
 -- the number r and the marks at exit are those of the chain c, before which the records `seen` were met, `before` of them
-pub record Gives (c : Chain) (rest : ℕ → ℕ) (seen : List ℕ) (base n before r : ℕ) (exit : List ℕ) : Type 0 where
+pub record Gives (c : Chain) (rest : ℕ → ℕ) (seen : List ℕ) (base size n before r : ℕ) (exit : List ℕ) : Type 0 where
   pub met : r / wordValues ≡ before + length (c .met)
-  pub ending : endingAt base n (r % wordValues) ≡ c .ending
+  pub ending : endingAt base size n (r % wordValues) ≡ c .ending
   pub marked : exit ≡ areaOf n rest (c .met ++ seen)
 
--- whatever records `seen` the marks at entry stand for, and whatever stands above them, the walk is the chain from `word` with those met already
-abbrev pub WalkOf : Format → List ℕ → ℕ → ℕ → ℕ → List ℕ → ℕ → ℕ → List ℕ → Type 0
-WalkOf f records base n word entry before r exit =
-    (rest : ℕ → ℕ) (seen : List ℕ) → entry ≡ areaOf n rest seen → Gives (chainAfter f records base n seen word) rest seen base n before r exit
+-- whichever profile's records have that length, whatever records `seen` the marks at entry stand for, and whatever stands above them, the walk is the chain
+-- from `word` with those met already
+abbrev pub WalkOf : Order → ℕ → List ℕ → ℕ → ℕ → ℕ → List ℕ → ℕ → ℕ → List ℕ → Type 0
+WalkOf o size records base n word entry before r exit =
+    (p : Profile) → size ≡ recordSize p → (rest : ℕ → ℕ) (seen : List ℕ) → entry ≡ areaOf n rest seen
+    → Gives (chainAfter (formatOf p o) records base n seen word) rest seen base size n before r exit
 
 -- a slice that was lent is the same after, and as long, but for its bytes
 abbrev pub Stays : RefT (List ℕ) → RefT (List ℕ) → Type 0

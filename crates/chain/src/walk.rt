@@ -2,16 +2,15 @@
 ghost use mathlib.Core.Path.{_≡_};
 ghost use Prim.Native.Nat.{_+_, _*_, _%_, _≤_};
 ghost use lib.ListN.{length};
-ghost use Rattle.tags.specs.Format.{formatIf};
+ghost use Rattle.tags.specs.Format.{orderIf};
 ghost use Rattle.geometry.specs.Sheet.{recordsLength};
 ghost use Rattle.geometry.specs.Limits.{Lawful};
 ghost use Rattle.chain.specs.Walk.{wordValues, Walkable, WalkOf, Stays, WalkIn};
-use area::place;
 use area::place::Place;
 use area::record;
 use geometry::sheet::Sheet;
 use tags::ending::Ending;
-use tags::format::Format;
+use tags::format;
 
 // How many records a chain met, and how it ends.
 pub struct Walked {
@@ -53,14 +52,14 @@ fn walk(
     met: u64,
 ) -> u64
     requires { ⌜ Walkable (now (now records)) size n (now (now marks)) met ⌝ }
-    ensures { λ r. ⌜ WalkOf (formatIf low) (now (now (records .entry))) base n word
+    ensures { λ r. ⌜ WalkOf (orderIf low) size (now (now (records .entry))) base n word
         (now (now (marks .entry))) met r (now (now (marks .exit)))
         × Stays (now (marks .entry)) (now (marks .exit)) ⌝ }
 {
     if word == 0 {
         return pack(met, word);
     }
-    let p = place::find(base, size, n, word);
+    let p = record::find(base, size, n, word);
     match p {
         Place::Nowhere => pack(met, word),
         Place::At(i) => {
@@ -68,14 +67,14 @@ fn walk(
                 return pack(met, word);
             }
             marks[i] = with_met(marks[i]);
-            let f = Format::of(low);
+            let o = format::order_if(low);
             walk(
                 records,
                 low,
                 base,
                 size,
                 n,
-                record::read_at(f, *records, base, word + record::NEXT as u32),
+                record::read_at(o, *records, base, word + record::NEXT as u32),
                 marks,
                 met + 1,
             )
@@ -95,7 +94,7 @@ fn walk_lent(
     marks: &mut [u8],
 ) -> u64
     requires { ⌜ Walkable (now (now records)) size n (now marks) 0 ⌝ }
-    ensures { λ r. ⌜ WalkOf (formatIf low) (now (now (records .entry))) base n head
+    ensures { λ r. ⌜ WalkOf (orderIf low) size (now (now (records .entry))) base n head
         (now (marks .entry)) 0 r (now (marks .exit)) ⌝ }
 {
     let mut lent = marks;
@@ -111,11 +110,12 @@ pub(crate) fn walk_from(records: &[u8], g: Sheet, marks: &mut [u8]) -> Walked
     ensures { λ r. ⌜ WalkIn g (now (records .entry)) (now (marks .entry)) r (now (marks .exit)) ⌝ }
 {
     let f = g.format;
+    let p = f.profile;
     let r = walk_lent(
         &records,
         f.is_low(),
         g.record_base,
-        record::SIZE,
+        record::size(p),
         g.count,
         g.head,
         marks,

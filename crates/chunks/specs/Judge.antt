@@ -9,13 +9,15 @@ use Rattle.runs.specs.Run.{repeated, difference}
 use Rattle.runs.specs.declared.run.Difference.{Difference}
 use Rattle.runs.specs.declared.run.Difference.the-variants.{At, Nowhere}
 use Rattle.chunks.specs.Chunk.{redzone, freeFill, guard, bufferSize}
+use Rattle.chunks.specs.Header.{requestOf, headerRight}
 use Rattle.tags.specs.Format.{wordBytes, wordAt}
 use Rattle.tags.specs.SizeCode.{decodedOf}
+use Rattle.tags.specs.Verdict.{verdictNumber, verdictValue}
 use Rattle.tags.specs.declared.format.Format.{Format}
 use Rattle.tags.specs.declared.size_code.Decoded.{Decoded}
 use Rattle.tags.specs.declared.size_code.Decoded.the-variants as decoded
 use Rattle.tags.specs.declared.verdict.Verdict.{Verdict}
-use Rattle.tags.specs.declared.verdict.Verdict.the-variants.{Free, Whole, Allocated, BadFill, BadRedzone, BadSizeCode, Overrun}
+use Rattle.tags.specs.declared.verdict.Verdict.the-variants.{Free, Whole, Allocated, BadFill, BadRedzone, BadSizeCode, Overrun, BadHeader}
 
 -- J7 (the first byte that differs): by where two runs differ, if they do
 abbrev pub byDifference : Difference → (ℕ → Verdict) → Verdict → Verdict
@@ -37,11 +39,11 @@ freeVerdict f c =
 unfoldable pub zoneVerdict : List ℕ → List ℕ → Verdict → Verdict
 zoneVerdict c zone sound = byDifference (difference (part c (bufferSize c) 4) zone) (λ o. Overrun (bufferSize c + o)) sound
 
--- C8 (R0 after a grant of s bytes: bb first when s is buffer size)
+-- C8 (R0 after a grant of the coded size s: bb first when s is buffer size)
 abbrev pub zoneAfter : Format → ℕ → ℕ → List ℕ
 zoneAfter f s size = cond (eqb s size) (set (wordBytes f redzone) 0 guard) (wordBytes f redzone)
 
--- J5 (R1 is the code of s): V28 at s (guard), V28 (R0), else V2; J6 (no other byte is judged)
+-- J5 (R1 is the code of s): V28 at s (guard), V28 (R0), else V2 with the coded size, which V30 is still to judge; J6 (no other byte is judged)
 unfoldable pub sizedVerdict : Format → List ℕ → ℕ → Verdict
 sizedVerdict f c s = cond (eqb (getD c s 0) guard) (zoneVerdict c (zoneAfter f s (bufferSize c)) (Allocated s)) (Overrun s)
 
@@ -51,7 +53,19 @@ byDecoded (decoded.Size s) f bad = f s
 byDecoded decoded.Bad f bad = bad
 
 -- J4 (allocated pattern, R1 is 0xfeedface): V28 (R0), else V1; J5 (any other R1): V27 (no size code), or what J5 has for its s
-unfoldable pub allocatedVerdict : Format → List ℕ → Verdict
-allocatedVerdict f c =
+unfoldable pub codedVerdict : Format → List ℕ → Verdict
+codedVerdict f c =
     cond (eqb (r1Of f c) redzone) (zoneVerdict c (wordBytes f redzone) Whole)
     (byDecoded (decodedOf (r1Of f c) (bufferSize c)) (sizedVerdict f c) BadSizeCode)
+
+-- V30 (the header of the coded size s is wrong), else V2 with the request
+unfoldable pub headerVerdict : Format → List ℕ → ℕ → Verdict
+headerVerdict f c s = cond (headerRight f c s) (Allocated (requestOf (f .profile) s)) BadHeader
+
+-- V30 comes after V28 and before V2: where all but the header gives V2 with a coded size, the header is judged; any other verdict stays
+unfoldable pub headedVerdict : Format → List ℕ → Verdict → Verdict
+headedVerdict f c v = cond (eqb (verdictNumber v) 2) (headerVerdict f c (verdictValue v)) v
+
+-- J4, J5 (allocated pattern): all but the header, and then V30 (header)
+unfoldable pub allocatedVerdict : Format → List ℕ → Verdict
+allocatedVerdict f c = headedVerdict f c (codedVerdict f c)

@@ -1,10 +1,10 @@
 // The bytes of a chunk: the buffer, the redzone words R0 and R1, and the tag.
 ghost use mathlib.Core.Path.{_≡_};
 ghost use mathlib.Core.Bool.{true};
+ghost use Prim.Native.Nat.{_≤_};
 ghost use lib.ListN.{length};
-ghost use Rattle.runs.specs.Run.{repeated};
-ghost use Rattle.tags.specs.Format.{wordBytes};
-ghost use Rattle.chunks.specs.Chunk.{ChunkLength, lawfulSize, redzone, chunkOf, bufferSize, freeChunk, grantedChunk, tagAt};
+ghost use Rattle.chunks.specs.Chunk.{ChunkLength, lawfulSize, bufferSize, filledChunk, guardedChunk, freeChunk, grantedChunk, tagAt};
+use crate::header;
 use runs::run;
 use tags::format::Format;
 use tags::size_code;
@@ -29,9 +29,7 @@ pub enum Grant {
 // Writes a whole chunk: a fill word again and again, R0, R1 and a tag.
 fn write(f: Format, chunk: &mut [u8], fill: u32, r1: u32, tag: Tag)
     requires { ⌜ ChunkLength (length (now chunk)) ⌝ }
-    ensures { λ _. ⌜ now (chunk .exit)
-        ≡ chunkOf f (repeated (bufferSize (now (chunk .entry))) (wordBytes f fill))
-        redzone r1 (tag .t0) (tag .t1) ⌝ }
+    ensures { λ _. ⌜ now (chunk .exit) ≡ filledChunk f (bufferSize (now (chunk .entry))) fill r1 tag ⌝ }
 {
     let o = f.order;
     let size = chunk.len() - 16;
@@ -51,10 +49,21 @@ pub fn write_free(f: Format, chunk: &mut [u8], record_at: u32)
     write(f, chunk, FREE_FILL, REDZONE, tag);
 }
 
+// Writes a chunk granted with a coded size, but for its header: the size code, and the guard.
+fn write_guarded(f: Format, chunk: &mut [u8], c: u32, tag: Tag)
+    requires { ⌜ ChunkLength (length (now chunk)) ⌝ }
+    requires { ⌜ c ≤ bufferSize (now chunk) ⌝ }
+    ensures { λ _. ⌜ now (chunk .exit) ≡ guardedChunk f (bufferSize (now (chunk .entry))) c tag ⌝ }
+{
+    write(f, chunk, GRANT_FILL, size_code::encode(c as u16), tag);
+    let i = c as usize;
+    chunk[i] = GUARD;
+}
+
 // Writes the chunk of a granted buffer whose record is at an address.
 pub fn write_granted(f: Format, chunk: &mut [u8], record_at: u32, grant: Grant)
     requires { ⌜ ChunkLength (length (now chunk)) ⌝ }
-    requires { ⌜ lawfulSize (bufferSize (now chunk)) grant ≡ true ⌝ }
+    requires { ⌜ lawfulSize (f .profile) (bufferSize (now chunk)) grant ≡ true ⌝ }
     ensures { λ _. ⌜ now (chunk .exit)
         ≡ grantedChunk f (bufferSize (now (chunk .entry))) «record_at» grant ⌝ }
 {
@@ -63,10 +72,11 @@ pub fn write_granted(f: Format, chunk: &mut [u8], record_at: u32, grant: Grant)
         Grant::Whole => {
             write(f, chunk, GRANT_FILL, REDZONE, tag);
         }
-        Grant::Sized(s) => {
-            write(f, chunk, GRANT_FILL, size_code::encode(s as u16), tag);
-            let i = s as usize;
-            chunk[i] = GUARD;
+        Grant::Sized(q) => {
+            let p = f.profile;
+            let c = header::coded(p, q);
+            write_guarded(f, chunk, c, tag);
+            header::write(f, chunk, c);
         }
     }
 }

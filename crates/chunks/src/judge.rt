@@ -7,8 +7,9 @@ ghost use Rattle.words.specs.Native.{lowBytes};
 ghost use Rattle.tags.specs.Verdict.{toldOf};
 ghost use Rattle.tags.specs.declared.verdict.Verdict.{Verdict};
 ghost use Rattle.chunks.specs.Chunk.{ChunkLength, bufferSize};
-ghost use Rattle.chunks.specs.Judge.{zoneVerdict, zoneAfter, sizedVerdict, freeVerdict, allocatedVerdict};
+ghost use Rattle.chunks.specs.Judge.{zoneVerdict, zoneAfter, sizedVerdict, freeVerdict, codedVerdict, headedVerdict};
 use crate::chunk;
+use crate::header;
 use runs::run;
 use runs::run::Difference;
 use tags::format::Format;
@@ -52,7 +53,7 @@ fn judge_zone(chunk: &[u8], zone: u32, sound: Told) -> Told
     }
 }
 
-// R0 after a grant of s bytes: the guard is its first byte where s is the buffer's size.
+// R0 after a grant of the coded size s: the guard is its first byte where s is the buffer's size.
 fn zone_after(f: Format, s: usize, size: usize) -> u32
     ensures { λ r. ⌜ lowBytes 4 r ≡ zoneAfter f s size ⌝ }
 {
@@ -64,7 +65,7 @@ fn zone_after(f: Format, s: usize, size: usize) -> u32
     zone
 }
 
-// The verdict on a chunk of the allocated pattern whose R1 is the code of s bytes.
+// The verdict on a chunk of the allocated pattern whose R1 is the code of s.
 fn judge_sized(f: Format, chunk: &[u8], s: u32) -> Told
     requires { ⌜ ChunkLength (length (now chunk)) ⌝ }
     requires { ⌜ s ≤ bufferSize (now chunk) ⌝ }
@@ -78,10 +79,10 @@ fn judge_sized(f: Format, chunk: &[u8], s: u32) -> Told
     judge_zone(chunk, zone, verdict::tell(Verdict::Allocated(s)))
 }
 
-// The verdict on a chunk of the allocated pattern.
-pub fn judge_allocated(f: Format, chunk: &[u8]) -> Told
+// The verdict on a chunk of the allocated pattern by all but its header: with the coded size, where it is sound.
+pub fn judge_coded(f: Format, chunk: &[u8]) -> Told
     requires { ⌜ ChunkLength (length (now chunk)) ⌝ }
-    ensures { λ r. ⌜ r ≡ toldOf (allocatedVerdict f (now (chunk .entry))) ⌝ }
+    ensures { λ r. ⌜ r ≡ toldOf (codedVerdict f (now (chunk .entry))) ⌝ }
 {
     let o = f.order;
     let size = chunk.len() - 16;
@@ -95,4 +96,22 @@ pub fn judge_allocated(f: Format, chunk: &[u8]) -> Told
         Decoded::Bad => verdict::tell(Verdict::BadSizeCode),
         Decoded::Size(s) => judge_sized(f, chunk, s),
     }
+}
+
+// The verdict on a chunk of the allocated pattern, given the one by all but its header. Two functions, one called after the other: each
+// is small enough to be compiled into its caller.
+pub fn judge_header(f: Format, chunk: &[u8], t: Told) -> Told
+    requires { ⌜ ChunkLength (length (now chunk)) ⌝ }
+    ensures { λ r. ⌜ ((v : Verdict) → t ≡ toldOf v
+        → r ≡ toldOf (headedVerdict f (now (chunk .entry)) v)) ⌝ }
+{
+    if t.number != 2 {
+        return t;
+    }
+    let p = f.profile;
+    let c = t.value;
+    if header::is_right(f, chunk, c) {
+        return verdict::tell(Verdict::Allocated(c - header::size(p) as u32));
+    }
+    verdict::tell(Verdict::BadHeader)
 }

@@ -6,6 +6,7 @@ use lib.Dec.{leb}
 use lib.ListN.{length}
 use lib.Seq.{sets}
 use Rattle.tags.specs.Refusal.{done}
+use Rattle.tags.specs.declared.format.Profile.{Profile}
 use Rattle.tags.specs.declared.refusal.Refusal.the-variants.{PastClient}
 use Rattle.tags.specs.declared.refusal.Answer.{Answer}
 use Rattle.tags.specs.declared.refusal.Answer.the-variants.{Refused}
@@ -22,8 +23,8 @@ storeTest offset len (held.Buffer p) = cond (leb (offset + len) (clientSize p)) 
 storeTest offset len (held.Refused why) = held.Refused why
 
 -- E6 (store), after E3
-unfoldable pub storePlan : Areas → ℕ → ℕ → ℕ → Held
-storePlan a address offset len = byImage (opening a) a (λ m. storeTest offset len (heldOf m address)) held.Refused
+unfoldable pub storePlan : Profile → Areas → ℕ → ℕ → ℕ → Held
+storePlan profile a address offset len = byImage (opening profile a) a (λ m. storeTest offset len (heldOf m address)) held.Refused
 
 -- K9 (what store writes): the bytes, from the offset on
 unfoldable pub storedAreas : Areas → ℕ → List ℕ → Holding → Areas
@@ -35,5 +36,5 @@ storeResult a offset bytes (held.Buffer p) = result done (storedAreas a offset b
 storeResult a offset bytes (held.Refused why) = refusedWith (Refused why) a
 
 -- K9, E6 (store)
-unfoldable pub storeOf : Areas → ℕ → ℕ → List ℕ → Result Answer
-storeOf a address offset bytes = storeResult a offset bytes (storePlan a address offset (length bytes))
+unfoldable pub storeOf : Profile → Areas → ℕ → ℕ → List ℕ → Result Answer
+storeOf profile a address offset bytes = storeResult a offset bytes (storePlan profile a address offset (length bytes))

@@ -10,11 +10,12 @@ use geometry::sheet::Sheet;
 use held::Held;
 use sheet::opening;
 use sheet::opening::Opened;
+use tags::format::Profile;
 use tags::refusal::Refusal;
 
-// Where the client's bytes start in the heap, and how many they are; or why they are not shown.
+// Where the buffer stands in the heap, where in it the client's bytes start, and how many they are; or why they are not shown.
 pub enum Shown {
-    Client(usize, usize),
+    Client(usize, usize, usize),
     Refused(Refusal),
 }
 
@@ -26,15 +27,25 @@ fn locate(heap: &[u8], records: &[u8], g: Sheet, address: u32) -> Shown
     let held = held::hold(heap, records, g, address);
     match held {
         Held::Refused(why) => Shown::Refused(why),
-        Held::Buffer(p) => Shown::Client(bounds::client_place(p), bounds::client_size(p)),
+        Held::Buffer(p) => Shown::Client(
+            bounds::buffer_place(p),
+            bounds::client_start(p),
+            bounds::client_size(p),
+        ),
     }
 }
 
 // Finds the client's bytes of the buffer at an address.
-pub fn find_client(sheet: &[u8], heap: &[u8], records: &[u8], address: u32) -> Shown
-    ensures { λ r. ⌜ r ≡ shownOf (before sheet heap records) address ⌝ }
+pub fn find_client(
+    profile: Profile,
+    sheet: &[u8],
+    heap: &[u8],
+    records: &[u8],
+    address: u32,
+) -> Shown
+    ensures { λ r. ⌜ r ≡ shownOf profile (before sheet heap records) address ⌝ }
 {
-    let opened = opening::open(sheet, heap.len(), records.len());
+    let opened = opening::open(profile, sheet, heap.len(), records.len());
     match opened {
         Opened::Refused(why) => Shown::Refused(why),
         Opened::Sheet(g) => locate(heap, records, g, address),
@@ -42,15 +53,22 @@ pub fn find_client(sheet: &[u8], heap: &[u8], records: &[u8], address: u32) -> S
 }
 
 // The client's bytes themselves; empty where they are refused.
-pub fn show<'a>(sheet: &[u8], heap: &'a [u8], records: &[u8], address: u32) -> &'a [u8]
+pub fn show<'a>(
+    profile: Profile,
+    sheet: &[u8],
+    heap: &'a [u8],
+    records: &[u8],
+    address: u32,
+) -> &'a [u8]
     ensures bytes { λ r. ⌜ now r
-        ≡ shownPart (now (heap .entry)) (shownOf (before sheet heap records) address) ⌝ }
-    ensures place { λ r. ⌜ ShownPlace (heap .entry) (shownOf (before sheet heap records) address) r ⌝ }
+        ≡ shownPart (now (heap .entry)) (shownOf profile (before sheet heap records) address) ⌝ }
+    ensures place { λ r. ⌜ ShownPlace (heap .entry) (shownOf profile (before sheet heap records) address) r ⌝ }
 {
-    let shown = find_client(sheet, heap, records, address);
+    let shown = find_client(profile, sheet, heap, records, address);
     match shown {
         Shown::Refused(_) => &heap[0..0],
-        Shown::Client(at, len) => {
+        Shown::Client(buffer, start, len) => {
+            let at = buffer + start;
             let end = at + len;
             &heap[at..end]
         }

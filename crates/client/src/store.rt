@@ -11,6 +11,7 @@ use held::Held;
 use runs::run;
 use sheet::opening;
 use sheet::opening::Opened;
+use tags::format::Profile;
 use tags::refusal::Answer;
 use tags::refusal::Refusal;
 
@@ -37,18 +38,27 @@ fn fit(heap: &[u8], records: &[u8], g: Sheet, address: u32, offset: u32, len: us
 }
 
 // The buffer that a store writes to, or why it does not. It only reads.
-fn plan(sheet: &[u8], heap: &[u8], records: &[u8], address: u32, offset: u32, len: usize) -> Held
-    ensures { λ r. ⌜ r ≡ storePlan (before sheet heap records) address offset len ⌝ }
+fn plan(
+    profile: Profile,
+    sheet: &[u8],
+    heap: &[u8],
+    records: &[u8],
+    address: u32,
+    offset: u32,
+    len: usize,
+) -> Held
+    ensures { λ r. ⌜ r ≡ storePlan profile (before sheet heap records) address offset len ⌝ }
 {
-    let opened = opening::open(sheet, heap.len(), records.len());
+    let opened = opening::open(profile, sheet, heap.len(), records.len());
     match opened {
         Opened::Refused(why) => Held::Refused(why),
         Opened::Sheet(g) => fit(heap, records, g, address, offset, len),
     }
 }
 
-// Stores bytes at an offset in the buffer at an address, or refuses and leaves every byte as it was.
+// Stores bytes at an offset in the client's bytes of the buffer at an address, or refuses and leaves every byte as it was.
 pub fn store(
+    profile: Profile,
     sheet: &[u8],
     heap: &mut [u8],
     records: &[u8],
@@ -57,9 +67,9 @@ pub fn store(
     bytes: &[u8],
 ) -> Answer
     ensures { λ r. ⌜ result r (after sheet heap records)
-        ≡ storeOf (before sheet heap records) address offset (now (bytes .entry)) ⌝ }
+        ≡ storeOf profile (before sheet heap records) address offset (now (bytes .entry)) ⌝ }
 {
-    let planned = plan(sheet, heap, records, address, offset, bytes.len());
+    let planned = plan(profile, sheet, heap, records, address, offset, bytes.len());
     match planned {
         Held::Refused(why) => Answer::Refused(why),
         Held::Buffer(p) => {

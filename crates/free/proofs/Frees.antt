@@ -3,6 +3,7 @@ use mathlib.Core.Path.{_≡_}
 use Prim.Native.Nat.{ℕ}
 use native.Mathlib.Omega.{arith}
 use Rattle.words.proofs.Tests.{by-test}
+use Rattle.tags.specs.declared.format.Profile.{Profile}
 use Rattle.chunks.specs.declared.chunk.Grant.{Grant}
 use Rattle.sheet.specs.Areas.{Areas, imageOf, opening}
 use Rattle.sheet.proofs.Opens.{opened-known, by-opened}
@@ -21,9 +22,10 @@ free-held q (Buffer h) p e =
 free-held q (Refused why) p e = absurd (let z : _≡_ {A = ℕ} 0 1 = cc in omega arith)
 
 -- and what is written for it lies in the areas of the call
-pub free-known : (a : Areas) (address : ℕ) (q : Grant) (p : Holding) → freePlan a address q ≡ Buffer p → HeldAt a address p
+pub free-known : (profile : Profile) (a : Areas) (address : ℕ) (q : Grant) (p : Holding) → freePlan profile a address q ≡ Buffer p
+    → HeldAt profile a address p
 unfolding freePlan
-free-known a address q p =
-    by-opened (λ x. x ≡ Buffer p → HeldAt a address p) (opening a)
-    (λ g e z. held-at a g address p (opened-known _ _ _ g e) (free-held q (heldOf (imageOf a g) address) p z))
+free-known profile a address q p =
+    by-opened (λ x. x ≡ Buffer p → HeldAt profile a address p) (opening profile a)
+    (λ g e z. held-at profile a g address p (opened-known _ _ _ _ g e) (free-held q (heldOf (imageOf a g) address) p z))
     (λ why z. absurd (let n : _≡_ {A = ℕ} 0 1 = cc in omega arith))

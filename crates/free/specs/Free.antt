@@ -4,6 +4,7 @@ use Prim.Native.Nat.{ℕ}
 use lib.Dec.{eqb}
 use lib.Seq.{sets}
 use Rattle.tags.specs.Refusal.{done}
+use Rattle.tags.specs.declared.format.Profile.{Profile}
 use Rattle.tags.specs.declared.refusal.Refusal.the-variants.{OtherGrant}
 use Rattle.tags.specs.declared.refusal.Answer.{Answer}
 use Rattle.tags.specs.declared.refusal.Answer.the-variants.{Refused}
@@ -33,8 +34,8 @@ freeTest q (held.Buffer p) = cond (sameGrant (p .grant) q) (held.Buffer p) (held
 freeTest q (held.Refused why) = held.Refused why
 
 -- E6 (free), after E3
-unfoldable pub freePlan : Areas → ℕ → Grant → Held
-freePlan a address q = byImage (opening a) a (λ m. freeTest q (heldOf m address)) held.Refused
+unfoldable pub freePlan : Profile → Areas → ℕ → Grant → Held
+freePlan profile a address q = byImage (opening profile a) a (λ m. freeTest q (heldOf m address)) held.Refused
 
 -- K7 (what free writes): the free chunk, the record's next word, stamp and thread, the new head
 unfoldable pub freedAreas : Areas → Stamp → Spot → Areas
@@ -49,5 +50,5 @@ freeResult a s (held.Buffer p) = result done (freedAreas a s (p .spot))
 freeResult a s (held.Refused why) = refusedWith (Refused why) a
 
 -- K7, E6 (free)
-unfoldable pub freeOf : Areas → ℕ → Grant → Stamp → Result Answer
-freeOf a address q s = freeResult a s (freePlan a address q)
+unfoldable pub freeOf : Profile → Areas → ℕ → Grant → Stamp → Result Answer
+freeOf profile a address q s = freeResult a s (freePlan profile a address q)

@@ -19,6 +19,7 @@ use places::spot::Spot;
 use sheet::fields;
 use sheet::opening;
 use sheet::opening::Opened;
+use tags::format::Profile;
 use tags::refusal::Answer;
 use tags::refusal::Refusal;
 
@@ -57,10 +58,17 @@ fn take_back(heap: &[u8], records: &[u8], g: Sheet, address: u32, grant: Grant) 
 }
 
 // The buffer that a free takes back, or why it does not. It only reads.
-fn plan(sheet: &[u8], heap: &[u8], records: &[u8], address: u32, grant: Grant) -> Held
-    ensures { λ r. ⌜ r ≡ freePlan (before sheet heap records) address grant ⌝ }
+fn plan(
+    profile: Profile,
+    sheet: &[u8],
+    heap: &[u8],
+    records: &[u8],
+    address: u32,
+    grant: Grant,
+) -> Held
+    ensures { λ r. ⌜ r ≡ freePlan profile (before sheet heap records) address grant ⌝ }
 {
-    let opened = opening::open(sheet, heap.len(), records.len());
+    let opened = opening::open(profile, sheet, heap.len(), records.len());
     match opened {
         Opened::Refused(why) => Held::Refused(why),
         Opened::Sheet(g) => take_back(heap, records, g, address, grant),
@@ -82,6 +90,7 @@ fn commit(sheet: &mut [u8], heap: &mut [u8], records: &mut [u8], stamp: Stamp, p
 
 // Frees the buffer at an address, or refuses and leaves every byte as it was.
 pub fn free(
+    profile: Profile,
     sheet: &mut [u8],
     heap: &mut [u8],
     records: &mut [u8],
@@ -90,9 +99,9 @@ pub fn free(
     stamp: Stamp,
 ) -> Answer
     ensures { λ r. ⌜ result r (after sheet heap records)
-        ≡ freeOf (before sheet heap records) address grant stamp ⌝ }
+        ≡ freeOf profile (before sheet heap records) address grant stamp ⌝ }
 {
-    let planned = plan(sheet, heap, records, address, grant);
+    let planned = plan(profile, sheet, heap, records, address, grant);
     match planned {
         Held::Refused(why) => Answer::Refused(why),
         Held::Buffer(p) => {

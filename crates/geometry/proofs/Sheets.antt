@@ -3,13 +3,15 @@ use mathlib.Core.Path.{_≡_, refl}
 use mathlib.Core.Logic.{_⊎_, inl, inr}
 use mathlib.Core.Bool.{Bool, true, false, _||_, and-eq-true-iff}
 use Prim.Native.Nat.{ℕ, _+_, _*_, _≤_, _<_}
+use native.Mathlib.Nat.{mul-le-mul-right}
 use native.Mathlib.Omega.{arith}
 use borrow.Author.Tests.{eqb-true, eqb-false, leb-true, not-true}
 use lib.Dec.{leb}
 use Rattle.words.proofs.Parts.{below}
 use Rattle.chunks.specs.Chunk.{ChunkLength}
-use Rattle.area.specs.Record.{recordSize}
-use Rattle.geometry.specs.Limits.{sizesLawful, basesLawful, lawful, Sizes, Bases, Lawful}
+use Rattle.area.specs.Record.{recordSize, RecordIn}
+use Rattle.area.proofs.Records.{record-most}
+use Rattle.geometry.specs.Limits.{sizesLawful, basesLawful, lawful, countMost, Sizes, SizesOf, Bases, Lawful}
 use Rattle.geometry.specs.Sheet.{heapLength, recordsLength}
 use Rattle.geometry.specs.declared.sheet.Sheet.{Sheet}
 
@@ -69,23 +71,31 @@ pub lawful-known : (g : Sheet) → lawful g ≡ true → Lawful g
 unfolding lawful
 lawful-known g e = let both = and-eq-true-iff _ _ .0 e in record { sizes = sizes-known _ _ _ _ (both .0); bases = bases-known _ _ _ _ (both .1) }
 
+-- the record area is not long: the most records, by their profile's length, and so by either's
+pub records-most : (g : Sheet) → SizesOf g → recordsLength g ≤ countMost * recordSize (g .format .profile)
+records-most g s = mul-le-mul-right (recordSize (g .format .profile)) (s .few)
+
+pub records-small : (g : Sheet) → SizesOf g → recordsLength g ≤ 51200
+records-small g s = omega (arith, records-most g s, record-most (g .format .profile))
+
+-- a record of the sheet lies in an area of the sheet's length
+pub record-in : (g : Sheet) (j len : ℕ) → len ≡ recordsLength g → j < g .count → RecordIn (g .format .profile) j len
+record-in g j len e h = omega (arith, below (recordSize (g .format .profile)) h)
+
 -- ---- places in the areas of a lawful sheet
 
 module _ (g : Sheet) (law : Lawful g) (i : ℕ) (h : i < g .count) where
   pub chunk-inside : i * g .chunk + g .chunk ≤ heapLength g
   chunk-inside = below (g .chunk) h
 
-  pub record-inside : i * recordSize + recordSize ≤ recordsLength g
-  record-inside = below recordSize h
+  pub record-inside : RecordIn (g .format .profile) i (recordsLength g)
+  record-inside = below (recordSize (g .format .profile)) h
 
   pub chunk-small : i * g .chunk + g .chunk ≤ 65536
   chunk-small = let k = chunk-inside in let a = law .sizes .area in omega arith
 
-  pub record-small : i * recordSize + recordSize ≤ 49152
-  record-small = let f = law .sizes .few in omega arith
-
   -- a record's address is a word
-  pub record-word : g .«record_base» + i * recordSize + recordSize ≤ 4294967296
+  pub record-word : g .«record_base» + i * recordSize (g .format .profile) + recordSize (g .format .profile) ≤ 4294967296
   record-word = let k = record-inside in let f = law .bases .recordsFit in omega arith
 
   -- and so is a buffer's

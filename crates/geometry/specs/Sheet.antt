@@ -43,25 +43,25 @@ abbrev pub heapLength : Sheet → ℕ
 heapLength g = g .count * g .chunk
 
 abbrev pub recordsLength : Sheet → ℕ
-recordsLength g = g .count * recordSize
+recordsLength g = g .count * recordSize (g .format .profile)
 
 -- A1 (where chunk i stands in the heap), A2 (where record j stands in the record area)
 abbrev pub chunkPlace : Sheet → ℕ → ℕ
 chunkPlace g i = i * g .chunk
 
 abbrev pub recordPlace : Sheet → ℕ → ℕ
-recordPlace g j = j * recordSize
+recordPlace g j = j * recordSize (g .format .profile)
 
 -- A1 (the address of buffer i), A2 (the address of record j)
 abbrev pub bufferAddress : Sheet → ℕ → ℕ
 bufferAddress g i = placeAddress (g .«heap_base») (g .chunk) i
 
 abbrev pub recordAddress : Sheet → ℕ → ℕ
-recordAddress g j = placeAddress (g .«record_base») recordSize j
+recordAddress g j = placeAddress (g .«record_base») (recordSize (g .format .profile)) j
 
 -- A7 (the buffer, and the record, whose address a word is)
 abbrev pub bufferOf : Sheet → ℕ → Place
 bufferOf g w = placeOf (g .«heap_base») (g .chunk) (g .count) w
 
 abbrev pub recordOf : Sheet → ℕ → Place
-recordOf g w = placeOf (g .«record_base») recordSize (g .count) w
+recordOf g w = placeOf (g .«record_base») (recordSize (g .format .profile)) (g .count) w

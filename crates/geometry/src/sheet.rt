@@ -9,18 +9,20 @@ use area::place::Place;
 use area::record;
 use tags::format::Format;
 
-// The numbers of a sheet. `format` is how the image writes its words, `size` and `chunk` are the lengths of a buffer and of its
-// chunk, `count` is the number of buffers and of records, `head` the chain's first word.
+// The numbers of a sheet. `format` is how the image writes its words and grants, `size` and `chunk` are the lengths of a buffer and of its
+// chunk, `count` is the number of buffers and of records, `head` the chain's first word. The order is for the machine: a sheet goes from call to
+// call in memory, and fields that stand side by side are copied eight bytes at a time, which waits where they were written one by one.
+// So a number of eight bytes comes first, where a refusal has its own, and others keep apart the pairs that are not needed together.
 pub struct Sheet {
-    pub format: Format,
-    pub cache: u32,
+    pub size: usize,
     pub heap_base: u32,
     pub record_base: u32,
-    pub size: usize,
     pub chunk: usize,
+    pub cache: u32,
+    pub flags: u32,
     pub count: usize,
     pub head: u32,
-    pub flags: u32,
+    pub format: Format,
 }
 
 impl Sheet {
@@ -61,7 +63,9 @@ impl Sheet {
         requires { ⌜ SizesOf self ⌝ }
         ensures { λ r. ⌜ r ≡ recordsLength self ⌝ }
     {
-        self.count * record::SIZE
+        let f = self.format;
+        let p = f.profile;
+        record::place(p, self.count)
     }
 
     // Where chunk i stands in the heap.
@@ -79,7 +83,9 @@ impl Sheet {
         requires { ⌜ j < self .count ⌝ }
         ensures { λ r. ⌜ r ≡ recordPlace self j ⌝ }
     {
-        j * record::SIZE
+        let f = self.format;
+        let p = f.profile;
+        record::place(p, j)
     }
 
     // The address of buffer i.
@@ -128,6 +134,8 @@ impl Sheet {
     pub fn find_record(self, word: u32) -> Place
         ensures { λ r. ⌜ r ≡ recordOf self word ⌝ }
     {
-        place::find(self.record_base, record::SIZE, self.count, word)
+        let f = self.format;
+        let p = f.profile;
+        record::find(self.record_base, record::size(p), self.count, word)
     }
 }

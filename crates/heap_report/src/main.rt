@@ -1,5 +1,5 @@
 // The report program: one byte, the sheet's length, then sheet, heap, records and log from standard input to the report, or to
-// `refused N`, on standard output. It reads no more than decides the answer: a sheet that is refused ends it, and of the log
+// `refused N`, on standard output. Images are those of the kernel's profile. It reads no more than decides the answer: a sheet that is refused ends it, and of the log
 // one byte more than is lawful.
 ghost use mathlib.Core.Path.{_≡_};
 ghost use Prim.Native.Nat.{_≤_};
@@ -13,6 +13,7 @@ use report::answer;
 use sheet::fields;
 use sheet::opening;
 use sheet::opening::Lengths;
+use tags::format::Profile;
 use tags::refusal::Answer;
 use tags::refusal::Refusal;
 
@@ -43,7 +44,7 @@ fn tell_refusal(why: Refusal) {
 // Writes the answer to what was read: the report, or why there is none. No report is longer than the output.
 fn tell(sheet: &[u8], heap: &[u8], records: &[u8], log: &[u8]) {
     let mut output = [0u8; 65535];
-    let told = answer::report(sheet, heap, records, log, &mut output);
+    let told = answer::report(Profile::Kernel, sheet, heap, records, log, &mut output);
     match told {
         Answer::Value(n) => write_out(&output, n as usize),
         Answer::Refused(why) => tell_refusal(why),
@@ -75,7 +76,7 @@ fn read_areas(sheet: &[u8], heap_len: usize, records_len: usize)
 
 // Reads on behind a sheet, unless the sheet alone decides.
 fn read_on(sheet: &[u8]) {
-    let areas = opening::area_lengths(sheet);
+    let areas = opening::area_lengths(Profile::Kernel, sheet);
     match areas {
         Lengths::Areas(h, r) => read_areas(sheet, h, r),
         Lengths::Refused(_) => tell(sheet, &sheet[0..0], &sheet[0..0], &sheet[0..0]),

@@ -10,17 +10,18 @@ use lib.Dec.{eqb}
 use lib.ListN.{length}
 use Rattle.words.proofs.Tests.{by-test}
 use Rattle.tags.specs.Tag.{patternOf}
+use Rattle.tags.specs.declared.format.Profile.{Profile}
 use Rattle.tags.specs.declared.tag.Pattern.{Pattern}
 use Rattle.tags.specs.declared.tag.Pattern.the-variants as pattern
 use Rattle.tags.specs.declared.verdict.Verdict.{Verdict}
 use Rattle.tags.specs.declared.verdict.Verdict.the-variants.{Free, Whole, Allocated, NotOneRecord, BadTag, FreedTwice}
-use Rattle.tags.specs.declared.verdict.Verdict.the-variants.{OffChain, OnChain, BadFill, BadRedzone, BadSizeCode, Overrun}
+use Rattle.tags.specs.declared.verdict.Verdict.the-variants.{OffChain, OnChain, BadFill, BadRedzone, BadSizeCode, Overrun, BadHeader}
 use Rattle.tags.specs.declared.refusal.Refusal.the-variants.{Damage}
 use Rattle.chunks.specs.Chunk.{bufferSize, tagAt, lawfulSize}
 use Rattle.chunks.specs.Judge.{allocatedVerdict}
 use Rattle.chunks.specs.declared.chunk.Grant.{Grant}
 use Rattle.chunks.specs.declared.chunk.Grant.the-variants as grant
-use Rattle.chunks.proofs.Chunks.{allocated-within, within-lawful}
+use Rattle.chunks.proofs.Chunks.{allocated-within}
 use Rattle.area.specs.Record.{addressWord}
 use Rattle.area.specs.declared.place.Place.the-variants.{At}
 use Rattle.area.proofs.Places.{place-found}
@@ -51,17 +52,19 @@ pub record HeldIn (m : Image) (address : ℕ) (p : Holding) : Type 0 where
   pub opened : Open (length (m .heap)) (length (m .records)) (p .spot .sheet)
   pub buffer : p .spot .buffer < p .spot .sheet .count
   pub own : p .spot .own < p .spot .sheet .count
-  pub granted : lawfulSize (p .spot .sheet .size) (p .grant) ≡ true
+  pub granted : lawfulSize (p .spot .sheet .format .profile) (p .spot .sheet .size) (p .grant) ≡ true
   pub starts : address ≡ bufferStart (p .spot)
 
 abbrev HeldIf : Image → ℕ → Held → Type 0
 HeldIf m address (Buffer p) = HeldIn m address p
 HeldIf m address (Refused why) = Unit {0}
 
-module _ (m : Image) (address : ℕ) (p : Spot) (known : (q : Grant) → lawfulSize (p .sheet .size) q ≡ true → HeldIn m address (holding p q)) where
-  held-as-if : (v : Verdict) → ((k : ℕ) → v ≡ Allocated k → (1 ≤ k) × (k ≤ p .sheet .size)) → HeldIf m address (heldAs v p)
+module _ (m : Image) (address : ℕ) (p : Spot)
+    (known : (q : Grant) → lawfulSize (p .sheet .format .profile) (p .sheet .size) q ≡ true → HeldIn m address (holding p q)) where
+  held-as-if : (v : Verdict) → ((k : ℕ) → v ≡ Allocated k → lawfulSize (p .sheet .format .profile) (p .sheet .size) (grant.Sized k) ≡ true)
+      → HeldIf m address (heldAs v p)
   held-as-if Whole f = known grant.Whole refl
-  held-as-if (Allocated k) f = let w = f k refl in known (grant.Sized k) (within-lawful (p .sheet .size) k (w .0) (w .1))
+  held-as-if (Allocated k) f = known (grant.Sized k) (f k refl)
   held-as-if Free f = tt
   held-as-if NotOneRecord f = tt
   held-as-if BadTag f = tt
@@ -72,12 +75,14 @@ module _ (m : Image) (address : ℕ) (p : Spot) (known : (q : Grant) → lawfulS
   held-as-if (BadRedzone o) f = tt
   held-as-if BadSizeCode f = tt
   held-as-if (Overrun o) f = tt
+  held-as-if BadHeader f = tt
 
   held-by-if : (c : List ℕ) (t : Pattern) → bufferSize c ≡ p .sheet .size → HeldIf m address (heldBy t c p)
   held-by-if c pattern.Neither e = tt
   held-by-if c pattern.Free e = tt
   held-by-if c pattern.Allocated e =
-      held-as-if (allocatedVerdict (p .sheet .format) c) (λ k q. let w = allocated-within (p .sheet .format) c k q in (w .0, subst (λ (n : ℕ). k ≤ n) e (w .1)))
+      held-as-if (allocatedVerdict (p .sheet .format) c)
+      (λ k q. subst (λ (n : ℕ). lawfulSize (p .sheet .format .profile) n (grant.Sized k) ≡ true) e (allocated-within (p .sheet .format) c k q))
 
 held-if : (m : Image) (address : ℕ) → OpenImage m → HeldIf m address (heldOf m address)
 unfolding heldOf heldChunk
@@ -116,17 +121,18 @@ held-known m address p o e = subst (HeldIf m address) e (held-if m address o)
 -- ---- in the areas of a call
 
 -- a held buffer: what is written for it lies in the areas, and it is the one at the address
-pub record HeldAt (a : Areas) (address : ℕ) (p : Holding) : Type 0 where
+pub record HeldAt (profile : Profile) (a : Areas) (address : ℕ) (p : Holding) : Type 0 where
   pub held : byLengths HeldWithin a p
   pub starts : address ≡ bufferStart (p .spot)
-  pub same : p .spot .sheet ≡ sheetOf (a .sheet)
+  pub same : p .spot .sheet ≡ sheetOf profile (a .sheet)
 
 -- the areas that a sheet opens
-abbrev pub OpenAreas : Areas → Sheet → Type 0
-OpenAreas a g = Opens (a .sheet) (length (a .heap)) (length (a .records)) g
+abbrev pub OpenAreas : Profile → Areas → Sheet → Type 0
+OpenAreas profile a g = Opens profile (a .sheet) (length (a .heap)) (length (a .records)) g
 
-pub held-at : (a : Areas) (g : Sheet) (address : ℕ) (p : Holding) → OpenAreas a g → heldOf (imageOf a g) address ≡ Buffer p → HeldAt a address p
-held-at a g address p o e =
+pub held-at : (profile : Profile) (a : Areas) (g : Sheet) (address : ℕ) (p : Holding) → OpenAreas profile a g → heldOf (imageOf a g) address ≡ Buffer p
+    → HeldAt profile a address p
+held-at profile a g address p o e =
     let k = held-known (imageOf a g) address p (o .opens) e in
     record {
       held = record { within = record { long = o .long; opened = k .opened; buffer = k .buffer; own = k .own }; granted = k .granted };

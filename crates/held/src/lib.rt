@@ -22,7 +22,6 @@ use places::heap;
 use places::records;
 use places::spot::Spot;
 use tags::refusal::Refusal;
-use tags::tag::Pattern;
 use tags::verdict;
 use tags::verdict::Told;
 use tags::verdict::Verdict;
@@ -58,7 +57,8 @@ fn held_as(t: Told, spot: Spot) -> Held
     Held::Refused(Refusal::Damage(verdict::of(t)))
 }
 
-// The last step: the chunk's pattern and its own bytes.
+// The last step: the chunk's pattern and its own bytes. A header stays out of the way of every verdict but the one that it is for: then
+// no table of all verdicts lies on the way to a buffer that is held.
 fn held_by(chunk: &[u8], spot: Spot) -> Held
     requires { ⌜ ChunkLength (length (now chunk)) ⌝ }
     ensures { λ r. ⌜ r ≡ heldBy (patternOf (tagAt (spot .sheet .format) (now (chunk .entry))))
@@ -66,12 +66,18 @@ fn held_by(chunk: &[u8], spot: Spot) -> Held
 {
     let g = spot.sheet;
     let f = g.format;
-    let p = chunk::read_tag(f, chunk).pattern();
-    match p {
-        Pattern::Neither => Held::Refused(Refusal::Damage(Verdict::BadTag)),
-        Pattern::Free => Held::Refused(Refusal::NotAllocated),
-        Pattern::Allocated => held_as(judge::judge_allocated(f, chunk), spot),
+    let tag = chunk::read_tag(f, chunk);
+    if tag.is_allocated() {
+        let t = judge::judge_coded(f, chunk);
+        if t.number == 2 {
+            return held_as(judge::judge_header(f, chunk, t), spot);
+        }
+        return held_as(t, spot);
     }
+    if tag.is_free() {
+        return Held::Refused(Refusal::NotAllocated);
+    }
+    Held::Refused(Refusal::Damage(Verdict::BadTag))
 }
 
 // The step before it: the record that T0 names must name the buffer.

@@ -7,6 +7,7 @@ use native.Mathlib.Decide.{ℕ-discrete}
 use borrow.Author.Tests.{le-leb, lt-leb}
 use lib.ListN.{length, getD, set, take, length-set}
 use lib.Seq.{getD-set-same, getD-set-other}
+use Rattle.tags.specs.declared.format.Profile.{Profile}
 use Rattle.tags.specs.declared.ending.Ending.{Ending}
 use Rattle.tags.specs.declared.refusal.Refusal.{Refusal}
 use Rattle.tags.specs.declared.refusal.Refusal.the-variants.{ShortOutput}
@@ -46,16 +47,16 @@ filled-below f rows (suc n) j d l m = go (ℕ-discrete j n) (filled-below f rows
 
 -- ---- what is begun
 
-module _ (a : Areas) (k : ℕ) (marks : List ℕ) where
+module _ (p : Profile) (a : Areas) (k : ℕ) (marks : List ℕ) where
   -- the image is refused
-  pub begins-refused : (why : Refusal) → openedOf (a .sheet) (length (a .heap)) (length (a .records)) ≡ opened.Refused why
-      → Begins a k (begun.Refused why) marks
+  pub begins-refused : (why : Refusal) → openedOf p (a .sheet) (length (a .heap)) (length (a .records)) ≡ opened.Refused why
+      → Begins p a k (begun.Refused why) marks
   unfolding inspectOf
   begins-refused why shut = record { within = omega arith; small = omega arith; judges = tt; tells = λ rows l. rw shut refl }
 
-  module _ (g : Sheet) (opens : openedOf (a .sheet) (length (a .heap)) (length (a .records)) ≡ opened.Sheet g) where
+  module _ (g : Sheet) (opens : openedOf p (a .sheet) (length (a .heap)) (length (a .records)) ≡ opened.Sheet g) where
     -- the row is too short
-    pub begins-short : k < g .count → Begins a k (begun.Refused ShortOutput) marks
+    pub begins-short : k < g .count → Begins p a k (begun.Refused ShortOutput) marks
     unfolding inspectOf
     begins-short short = record {
       within = omega arith;
@@ -66,10 +67,10 @@ module _ (a : Areas) (k : ℕ) (marks : List ℕ) where
 
     -- the image is marked
     pub begins-image : (ending : Ending) → g .count ≤ k → take (g .count) marks ≡ marksIn g (a .records) → ending ≡ chainIn g (a .records) .ending
-        → Begins a k (begun.Image g ending) marks
+        → Begins p a k (begun.Image g ending) marks
     unfolding inspectOf
     begins-image ending fits marked ends =
-        let o = opened-known _ _ _ _ opens .opens in
+        let o = opened-known _ _ _ _ _ opens .opens in
         record {
           within = fits;
           small = omega (arith, o .law .sizes .few);

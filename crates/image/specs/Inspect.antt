@@ -4,6 +4,7 @@ use mathlib.Core.List.{List}
 use Prim.Native.Nat.{ℕ, zero, suc, _≤_}
 use lib.ListN.{length, set, take}
 use Rattle.tags.specs.Filling.{Filling, filling, unfilled, ifRoom}
+use Rattle.tags.specs.declared.format.Profile.{Profile}
 use Rattle.tags.specs.declared.ending.Ending.{Ending}
 use Rattle.tags.specs.declared.refusal.Refusal.the-variants.{ShortOutput}
 use Rattle.tags.specs.declared.refusal.Answer.{Answer}
@@ -36,8 +37,8 @@ abbrev pub inspected : Image → List Finding → Inspection
 inspected m rows = filling (Value (m .sheet .count)) (filled (findingOf m) rows (m .sheet .count))
 
 -- E8 (the need: a finding for each buffer), after E3
-unfoldable pub inspectOf : Areas → List Finding → Inspection
-inspectOf a rows = byImage (opening a) a (λ m. ifRoom (m .sheet .count) rows (inspected m rows) (Refused ShortOutput)) (λ why. unfilled (Refused why) rows)
+unfoldable pub inspectOf : Profile → Areas → List Finding → Inspection
+inspectOf p a rows = byImage (opening p a) a (λ m. ifRoom (m .sheet .count) rows (inspected m rows) (Refused ShortOutput)) (λ why. unfilled (Refused why) rows)
 
 -- ---- how the code holds it
 
@@ -67,8 +68,8 @@ Judges heap records marks (begun.Refused why) = Unit {0}
 
 -- what is begun, for a row of k findings: the buffers to be judged have a place in it and can be judged, and the answer and their findings are those of the
 -- inspection
-pub record Begins (a : Areas) (k : ℕ) (b : Begun) (marks : List ℕ) : Type 0 where
+pub record Begins (p : Profile) (a : Areas) (k : ℕ) (b : Begun) (marks : List ℕ) : Type 0 where
   pub within : countOf b ≤ k
   pub small : countOf b ≤ 4294967295
   pub judges : Judges (a .heap) (a .records) marks b
-  pub tells : (rows : List Finding) → length rows ≡ k → inspectOf a rows ≡ filling (answerOf b) (filled (foundBy (a .heap) (a .records) b) rows (countOf b))
+  pub tells : (rows : List Finding) → length rows ≡ k → inspectOf p a rows ≡ filling (answerOf b) (filled (foundBy (a .heap) (a .records) b) rows (countOf b))

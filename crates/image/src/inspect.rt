@@ -17,6 +17,7 @@ use geometry::sheet::Sheet;
 use sheet::opening;
 use sheet::opening::Opened;
 use tags::ending::Ending;
+use tags::format::Profile;
 use tags::refusal::Answer;
 use tags::refusal::Refusal;
 use tags::verdict;
@@ -52,11 +53,18 @@ fn mark_first(records: &[u8], g: Sheet, marks: &mut [u8]) -> Ending
 }
 
 // Opens an image and marks its records and buffers, for a lent row of so many findings.
-fn begin(sheet: &[u8], heap: &[u8], records: &[u8], rows: usize, marks: &mut Marks) -> Begun
+fn begin(
+    profile: Profile,
+    sheet: &[u8],
+    heap: &[u8],
+    records: &[u8],
+    rows: usize,
+    marks: &mut Marks,
+) -> Begun
     requires { ⌜ length (now marks) ≡ countMost ⌝ }
-    ensures { λ r. ⌜ Begins (before sheet heap records) rows r (now (marks .exit)) ⌝ }
+    ensures { λ r. ⌜ Begins profile (before sheet heap records) rows r (now (marks .exit)) ⌝ }
 {
-    let opened = opening::open(sheet, heap.len(), records.len());
+    let opened = opening::open(profile, sheet, heap.len(), records.len());
     match opened {
         Opened::Refused(why) => Begun::Refused(why),
         Opened::Sheet(g) => {
@@ -126,12 +134,18 @@ fn answer_of(begun: Begun) -> Answer
 }
 
 // Fills a lent row of findings, one for each buffer, or refuses and leaves it as it was. Rows past the last buffer stay.
-pub fn inspect(sheet: &[u8], heap: &[u8], records: &[u8], rows: &mut [Finding]) -> Answer
+pub fn inspect(
+    profile: Profile,
+    sheet: &[u8],
+    heap: &[u8],
+    records: &[u8],
+    rows: &mut [Finding],
+) -> Answer
     ensures { λ r. ⌜ filling r (now (rows .exit))
-        ≡ inspectOf (before sheet heap records) (now (rows .entry)) ⌝ }
+        ≡ inspectOf profile (before sheet heap records) (now (rows .entry)) ⌝ }
 {
     let mut marks = [0u8; limits::MOST_BUFFERS];
-    let begun = begin(sheet, heap, records, rows.len(), &mut marks);
+    let begun = begin(profile, sheet, heap, records, rows.len(), &mut marks);
     let n = count_of(begun);
     let mut i = 0;
     while i < n {

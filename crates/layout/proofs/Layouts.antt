@@ -25,7 +25,7 @@ module _ (g : Sheet) where
   pub laid-chunk-long : Lawful g → (i : ℕ) → length (laidChunk g i) ≡ g .chunk
   laid-chunk-long law i = omega (arith, length-freeChunk (g .format) (g .size) (recordAddress g i), law .sizes .chunks)
 
-  pub laid-record-long : (i : ℕ) → length (laidRecord g i) ≡ recordSize
+  pub laid-record-long : (i : ℕ) → length (laidRecord g i) ≡ recordSize (g .format .profile)
   laid-record-long i = length-recordBytes (g .format) (linkTo g (suc i)) (bufferAddress g i) (g .cache)
 
   pub link-in : (i : ℕ) → i < g .count → linkTo g i ≡ recordAddress g i

@@ -72,7 +72,7 @@ module _ (g : Sheet) (laid : Laid g) where
   -- ---- each call
 
   allocate-keeps : (w : RunState) (q : Grant) (t : Stamp) (head : ℕ) (chain : List ℕ) → Invariant g head (w .areas) (w .ledger .out) chain
-      → w .ledger .allocations ≡ w .ledger .frees + outCount g (w .ledger .out) → (b : Bool) → lawfulSize (g .size) q ≡ b
+      → w .ledger .allocations ≡ w .ledger .frees + outCount g (w .ledger .out) → (b : Bool) → lawfulSize (g .format .profile) (g .size) q ≡ b
       → RunInvariant g (step (g .format) (g .size) (allocate q t) w)
   allocate-keeps w q t head chain v k false e =
       rw (allocate-unlawful g laid v q t e) (record { head = head; chain = chain; invariant = v; balance = k })
@@ -140,7 +140,7 @@ module _ (g : Sheet) (laid : Laid g) where
       go j h o e false s = rw (store-past g laid (f .invariant) j h o e offset bytes s) f
 
   pub step-keeps : (call : Call) (w : RunState) → RunInvariant g w → RunInvariant g (step (g .format) (g .size) call w)
-  step-keeps (allocate q t) w f = allocate-keeps w q t (f .head) (f .chain) (f .invariant) (f .balance) (lawfulSize (g .size) q) refl
+  step-keeps (allocate q t) w f = allocate-keeps w q t (f .head) (f .chain) (f .invariant) (f .balance) (lawfulSize (g .format .profile) (g .size) q) refl
   step-keeps (free address q t) w f = free-keeps w address q t f
   step-keeps (store address offset bytes) w f = store-keeps w address offset bytes f
 

@@ -4,7 +4,6 @@ use mathlib.Core.Bool.{true, false}
 use mathlib.Core.List.{List, [], _∷_}
 use mathlib.Core.Option.{Option, none, some}
 use Prim.Native.Nat.{ℕ, _+_, _*_, _<_}
-use native.Mathlib.Nat.{add-zero}
 use native.Mathlib.Omega.{arith}
 use borrow.Author.Tests.{eq-eqb, ne-eqb}
 use lib.Dec.{leb}
@@ -12,10 +11,11 @@ use lib.ListN.{length}
 use Rattle.words.specs.Word.{part}
 use Rattle.words.proofs.Parts.{part-part}
 use Rattle.chunks.proofs.Chunks.{grant-within}
-use Rattle.chunks.specs.Chunk.{grantSize, lawfulSize}
+use Rattle.chunks.specs.Chunk.{grantSize, clientOffset, lawfulSize}
 use Rattle.chunks.specs.declared.chunk.Grant.{Grant}
 use Rattle.chunks.specs.declared.chunk.Grant.the-variants as grant
 use Rattle.area.specs.Record.{recordSize, addressWord}
+use Rattle.area.proofs.Records.{record-least}
 use Rattle.area.specs.declared.record.Stamp.{Stamp}
 use Rattle.sheet.specs.Areas.{Areas, result, refusedWith, imageOf, chunkIn}
 use Rattle.geometry.specs.Sheet.{headed, chunkPlace, bufferAddress, recordAddress, bufferOf, recordOf}
@@ -58,7 +58,7 @@ module _ (g : Sheet) (laid : Laid g) where
   hold head j q = holding (pairAt head j) q
 
   record-place : (j : ℕ) → j < g .count → (w : ℕ) → w ≡ recordAddress g j → recordOf g w ≡ At j
-  record-place j h w e = place-at (g .«record_base») recordSize (g .count) w j (omega arith) h e
+  record-place j h w e = place-at (g .«record_base») (recordSize (g .format .profile)) (g .count) w j (omega (arith, record-least (g .format .profile))) h e
 
   buffer-place : (j : ℕ) → j < g .count → (w : ℕ) → w ≡ bufferAddress g j → bufferOf g w ≡ At j
   buffer-place j h w e = place-at (g .«heap_base») (g .chunk) (g .count) w j (chunk-some g laid) h e
@@ -68,8 +68,8 @@ module _ (g : Sheet) (laid : Laid g) where
         → chunkIn g (a .heap) j ≡ chunkFor (g .format) (g .size) (recordAddress g j) o
     chunk-is j h o e = v .chunks j h ∙ ap (chunkFor (g .format) (g .size) (recordAddress g j)) e
 
-    pub entry-is : (j : ℕ) → j < g .count → (o : Option Entry) → out (bufferAddress g j) ≡ o → LawfulEntry (g .size) o
-    entry-is j h o e = subst (LawfulEntry (g .size)) e (v .entries j h)
+    pub entry-is : (j : ℕ) → j < g .count → (o : Option Entry) → out (bufferAddress g j) ≡ o → LawfulEntry (g .format .profile) (g .size) o
+    entry-is j h o e = subst (LawfulEntry (g .format .profile) (g .size)) e (v .entries j h)
 
     -- ---- what free, store and show find
 
@@ -112,22 +112,22 @@ module _ (g : Sheet) (laid : Laid g) where
     -- ---- free
 
     pub free-done : (j : ℕ) → j < g .count → (o : Entry) → out (bufferAddress g j) ≡ some o → (q : Grant) (t : Stamp) → sameGrant (o .grant) q ≡ true
-        → freeOf a (bufferAddress g j) q t ≡ result done (freedAreas a t (pairAt head j))
+        → freeOf (g .format .profile) a (bufferAddress g j) q t ≡ result done (freedAreas a t (pairAt head j))
     unfolding freeOf freePlan
     free-done j h o e q t s = rw (opens g laid v, held-out j h o e, s)
 
     pub free-other : (j : ℕ) → j < g .count → (o : Entry) → out (bufferAddress g j) ≡ some o → (q : Grant) (t : Stamp) → sameGrant (o .grant) q ≡ false
-        → freeOf a (bufferAddress g j) q t ≡ refusedWith (answer.Refused OtherGrant) a
+        → freeOf (g .format .profile) a (bufferAddress g j) q t ≡ refusedWith (answer.Refused OtherGrant) a
     unfolding freeOf freePlan
     free-other j h o e q t s = rw (opens g laid v, held-out j h o e, s)
 
     pub free-in : (j : ℕ) → j < g .count → out (bufferAddress g j) ≡ none → (q : Grant) (t : Stamp)
-        → freeOf a (bufferAddress g j) q t ≡ refusedWith (answer.Refused NotAllocated) a
+        → freeOf (g .format .profile) a (bufferAddress g j) q t ≡ refusedWith (answer.Refused NotAllocated) a
     unfolding freeOf freePlan
     free-in j h e q t = rw (opens g laid v, held-in j h e)
 
     pub free-stray : (x : ℕ) → bufferOf g x ≡ Nowhere → (q : Grant) (t : Stamp)
-        → freeOf a x q t ≡ refusedWith (answer.Refused NoSuchBuffer) a
+        → freeOf (g .format .profile) a x q t ≡ refusedWith (answer.Refused NoSuchBuffer) a
     unfolding freeOf freePlan
     free-stray x e q t = rw (opens g laid v, held-stray x e)
 
@@ -135,56 +135,58 @@ module _ (g : Sheet) (laid : Laid g) where
 
     pub store-done : (j : ℕ) → j < g .count → (o : Entry) → out (bufferAddress g j) ≡ some o → (offset : ℕ) (bytes : List ℕ)
         → leb (offset + length bytes) (grantSize (g .size) (o .grant)) ≡ true
-        → storeOf a (bufferAddress g j) offset bytes ≡ result done (storedAreas a offset bytes (hold head j (o .grant)))
+        → storeOf (g .format .profile) a (bufferAddress g j) offset bytes ≡ result done (storedAreas a offset bytes (hold head j (o .grant)))
     unfolding storeOf storePlan
     store-done j h o e offset bytes s = rw (opens g laid v, held-out j h o e, s)
 
     pub store-past : (j : ℕ) → j < g .count → (o : Entry) → out (bufferAddress g j) ≡ some o → (offset : ℕ) (bytes : List ℕ)
         → leb (offset + length bytes) (grantSize (g .size) (o .grant)) ≡ false
-        → storeOf a (bufferAddress g j) offset bytes ≡ refusedWith (answer.Refused PastClient) a
+        → storeOf (g .format .profile) a (bufferAddress g j) offset bytes ≡ refusedWith (answer.Refused PastClient) a
     unfolding storeOf storePlan
     store-past j h o e offset bytes s = rw (opens g laid v, held-out j h o e, s)
 
     pub store-in : (j : ℕ) → j < g .count → out (bufferAddress g j) ≡ none → (offset : ℕ) (bytes : List ℕ)
-        → storeOf a (bufferAddress g j) offset bytes ≡ refusedWith (answer.Refused NotAllocated) a
+        → storeOf (g .format .profile) a (bufferAddress g j) offset bytes ≡ refusedWith (answer.Refused NotAllocated) a
     unfolding storeOf storePlan
     store-in j h e offset bytes = rw (opens g laid v, held-in j h e)
 
     pub store-stray : (x : ℕ) → bufferOf g x ≡ Nowhere → (offset : ℕ) (bytes : List ℕ)
-        → storeOf a x offset bytes ≡ refusedWith (answer.Refused NoSuchBuffer) a
+        → storeOf (g .format .profile) a x offset bytes ≡ refusedWith (answer.Refused NoSuchBuffer) a
     unfolding storeOf storePlan
     store-stray x e offset bytes = rw (opens g laid v, held-stray x e)
 
     -- ---- show
 
     pub show-out : (j : ℕ) → j < g .count → (o : Entry) → out (bufferAddress g j) ≡ some o
-        → shownOf a (bufferAddress g j) ≡ shown.Client (chunkPlace g j) (grantSize (g .size) (o .grant))
+        → shownOf (g .format .profile) a (bufferAddress g j) ≡ shown.Client (chunkPlace g j) (clientOffset (g .format .profile) (o .grant)) (grantSize (g .size) (o .grant))
     unfolding shownOf
     show-out j h o e = rw (opens g laid v, held-out j h o e)
 
-    pub show-in : (j : ℕ) → j < g .count → out (bufferAddress g j) ≡ none → shownOf a (bufferAddress g j) ≡ shown.Refused NotAllocated
+    pub show-in : (j : ℕ) → j < g .count → out (bufferAddress g j) ≡ none → shownOf (g .format .profile) a (bufferAddress g j) ≡ shown.Refused NotAllocated
     unfolding shownOf
     show-in j h e = rw (opens g laid v, held-in j h e)
 
     pub client-is : (j : ℕ) → j < g .count → (o : Entry) → out (bufferAddress g j) ≡ some o
-        → part (a .heap) (chunkPlace g j) (grantSize (g .size) (o .grant)) ≡ o .client
+        → part (a .heap) (chunkPlace g j + clientOffset (g .format .profile) (o .grant)) (grantSize (g .size) (o .grant)) ≡ o .client
     client-is j h o e =
         let l = entry-is j h (some o) e in
         let k = grantSize (g .size) (o .grant) in
-        ap (λ (x : ℕ). part (a .heap) x k) (sym (add-zero (j * g .chunk)))
-        ∙ sym (part-part (a .heap) (j * g .chunk) (g .chunk) 0 k (omega (arith, grant-within (g .size) (o .grant) (l .0), laid .law .sizes .chunks)))
-        ∙ ap (λ (x : List ℕ). part x 0 k) (chunk-is j h (some o) e)
+        let at = clientOffset (g .format .profile) (o .grant) in
+        sym
+        (part-part (a .heap) (j * g .chunk) (g .chunk) at k
+        (omega (arith, grant-within (g .format .profile) (g .size) (o .grant) (l .0), laid .law .sizes .chunks)))
+        ∙ ap (λ (x : List ℕ). part x at k) (chunk-is j h (some o) e)
         ∙ client-part (g .format) (g .size) (recordAddress g j) o l
 
     -- ---- allocate
 
-    pub allocate-unlawful : (q : Grant) (t : Stamp) → lawfulSize (g .size) q ≡ false
-        → allocateOf a q t ≡ refusedWith (answer.Refused BadSize) a
+    pub allocate-unlawful : (q : Grant) (t : Stamp) → lawfulSize (g .format .profile) (g .size) q ≡ false
+        → allocateOf (g .format .profile) a q t ≡ refusedWith (answer.Refused BadSize) a
     unfolding allocateOf allocatePlan takenOf
     allocate-unlawful q t e = rw (opens g laid v, e)
 
-  pub allocate-none : {head : ℕ} {a : Areas} {out : ℕ → Option Entry} → Invariant g head a out [] → (q : Grant) (t : Stamp) → lawfulSize (g .size) q ≡ true
-      → allocateOf a q t ≡ refusedWith (answer.Refused NoRoom) a
+  pub allocate-none : {head : ℕ} {a : Areas} {out : ℕ → Option Entry} → Invariant g head a out [] → (q : Grant) (t : Stamp) → lawfulSize (g .format .profile) (g .size) q ≡ true
+      → allocateOf (g .format .profile) a q t ≡ refusedWith (answer.Refused NoRoom) a
   unfolding allocateOf allocatePlan takenOf
   allocate-none {head} v q t e = rw (opens g laid v, e, eq-eqb head 0 (none-linked g laid _ head (v .linked)))
 
@@ -196,8 +198,8 @@ module _ (g : Sheet) (laid : Laid g) where
     pub taken-in : out (bufferAddress g j) ≡ none
     taken-in = none-out (out (bufferAddress g j)) (omega (arith, v .each j taken-below, occ-here j js))
 
-    pub allocate-some : (q : Grant) (t : Stamp) → lawfulSize (g .size) q ≡ true
-        → allocateOf a q t ≡ result (answer.Value (bufferAddress g j)) (grantedAreas a q t (pairAt head j))
+    pub allocate-some : (q : Grant) (t : Stamp) → lawfulSize (g .format .profile) (g .size) q ≡ true
+        → allocateOf (g .format .profile) a q t ≡ result (answer.Value (bufferAddress g j)) (grantedAreas a q t (pairAt head j))
     unfolding allocateOf allocatePlan takenOf takenHead takenChunk
     allocate-some q t e =
         let h = taken-below in

@@ -56,14 +56,14 @@ namers-one word (suc m) a i l e h = go (ℕ-discrete i m) (namers-one word m a i
 -- ---- the tag and the verdict of a chunk as the ledger has it
 
 module _ (f : Format) (size a : ℕ) (few : size ≤ 4096) (word : a < 4294967296) where
-  pub first-for : (o : Option Entry) → LawfulEntry size o → tagAt f (chunkFor f size a o) .t0 ≡ a
+  pub first-for : (o : Option Entry) → LawfulEntry (f .profile) size o → tagAt f (chunkFor f size a o) .t0 ≡ a
   unfolding tagOf
   first-for o l = ap (λ (t : Tag). t .t0) (tag-for f size a few word o l)
 
-  pub pattern-for : (o : Option Entry) → LawfulEntry size o → patternOf (tagAt f (chunkFor f size a o)) ≡ statePattern (stateFor o)
+  pub pattern-for : (o : Option Entry) → LawfulEntry (f .profile) size o → patternOf (tagAt f (chunkFor f size a o)) ≡ statePattern (stateFor o)
   pattern-for o l = ap patternOf (tag-for f size a few word o l) ∙ tag-pattern a (stateFor o)
 
-  owned-for : (o : Option Entry) → LawfulEntry size o → (k : ℕ) → k + outs o ≡ 1
+  owned-for : (o : Option Entry) → LawfulEntry (f .profile) size o → (k : ℕ) → k + outs o ≡ 1
       → ownedVerdict f (chunkFor f size a o) a (standing (not (eqb k 0)) false) ≡ asEntered o
   unfolding ownedVerdict chainedVerdict
   owned-for none l k e =

@@ -12,7 +12,8 @@ use Rattle.words.proofs.Parts.{below}
 use Rattle.sheet.specs.Areas.{Areas, opening, chunkIn}
 use Rattle.geometry.specs.Sheet.{headed, heapLength, recordsLength, bufferAddress, recordAddress, bufferOf}
 use Rattle.geometry.specs.Limits.{lawful, Lawful}
-use Rattle.area.specs.Record.{addressWord, nextWord}
+use Rattle.area.specs.Record.{recordSize, addressWord, nextWord}
+use Rattle.area.proofs.Records.{record-least}
 use Rattle.chain.specs.Chain.{occ}
 use Rattle.sheet.specs.Fields.{sheetBytes}
 use Rattle.geometry.specs.declared.sheet.Sheet.{Sheet}
@@ -41,18 +42,18 @@ pub record Invariant (g : Sheet) (head : ℕ) (a : Areas) (out : ℕ → Option 
   pub sheetIs : a .sheet ≡ sheetBytes (headed g head)
   pub heapLong : length (a .heap) ≡ heapLength g
   pub recordsLong : length (a .records) ≡ recordsLength g
-  pub linked : Linked (nextWord (g .format) (a .records)) (g .«record_base») (g .count) head chain
+  pub linked : Linked (nextWord (g .format) (a .records)) (g .«record_base») (recordSize (g .format .profile)) (g .count) head chain
   pub each : (j : ℕ) → j < g .count → occ j chain + outs (out (bufferAddress g j)) ≡ 1
   pub only : (j : ℕ) → g .count ≤ j → occ j chain ≡ 0
   pub chunks : (j : ℕ) → j < g .count → chunkIn g (a .heap) j ≡ chunkFor (g .format) (g .size) (recordAddress g j) (out (bufferAddress g j))
   pub names : (j : ℕ) → j < g .count → addressWord (g .format) (a .records) j ≡ bufferAddress g j
-  pub entries : (j : ℕ) → j < g .count → LawfulEntry (g .size) (out (bufferAddress g j))
+  pub entries : (j : ℕ) → j < g .count → LawfulEntry (g .format .profile) (g .size) (out (bufferAddress g j))
   pub stray : (x : ℕ) → bufferOf g x ≡ Nowhere → out x ≡ none
 
 module _ (g : Sheet) (laid : Laid g) where
   -- a record's address is a word, and not 0
   pub record-fits : (j : ℕ) → j < g .count → recordAddress g j < 4294967296
-  record-fits j h = omega (arith, record-word g (laid .law) j h)
+  record-fits j h = omega (arith, record-word g (laid .law) j h, record-least (g .format .profile))
 
   pub records-some : g .«record_base» ≢ 0
   records-some e = omega (arith, laid .law .bases .recordsSome)
@@ -61,25 +62,25 @@ module _ (g : Sheet) (laid : Laid g) where
   chunk-some = omega (arith, laid .law .sizes .chunks)
 
   -- the first of a linked list, and the word that leads to it
-  pub first-below : (next : ℕ → ℕ) (head j : ℕ) (js : List ℕ) → Linked next (g .«record_base») (g .count) head (j ∷ js) → j < g .count
+  pub first-below : (next : ℕ → ℕ) (head j : ℕ) (js : List ℕ) → Linked next (g .«record_base») (recordSize (g .format .profile)) (g .count) head (j ∷ js) → j < g .count
   unfolding Linked
   first-below next head j js l = l .0
 
-  pub first-address : (next : ℕ → ℕ) (head j : ℕ) (js : List ℕ) → Linked next (g .«record_base») (g .count) head (j ∷ js) → head ≡ recordAddress g j
+  pub first-address : (next : ℕ → ℕ) (head j : ℕ) (js : List ℕ) → Linked next (g .«record_base») (recordSize (g .format .profile)) (g .count) head (j ∷ js) → head ≡ recordAddress g j
   unfolding Linked
   first-address next head j js l = l .1 .0
 
-  pub rest-linked : (next : ℕ → ℕ) (head j : ℕ) (js : List ℕ) → Linked next (g .«record_base») (g .count) head (j ∷ js)
-      → Linked next (g .«record_base») (g .count) (next j) js
+  pub rest-linked : (next : ℕ → ℕ) (head j : ℕ) (js : List ℕ) → Linked next (g .«record_base») (recordSize (g .format .profile)) (g .count) head (j ∷ js)
+      → Linked next (g .«record_base») (recordSize (g .format .profile)) (g .count) (next j) js
   unfolding Linked
   rest-linked next head j js l = l .1 .1
 
-  pub none-linked : (next : ℕ → ℕ) (head : ℕ) → Linked next (g .«record_base») (g .count) head [] → head ≡ 0
+  pub none-linked : (next : ℕ → ℕ) (head : ℕ) → Linked next (g .«record_base») (recordSize (g .format .profile)) (g .count) head [] → head ≡ 0
   unfolding Linked
   none-linked next head l = l
 
   -- the head is a word
-  pub head-fits : (next : ℕ → ℕ) (head : ℕ) (js : List ℕ) → Linked next (g .«record_base») (g .count) head js → head < 4294967296
+  pub head-fits : (next : ℕ → ℕ) (head : ℕ) (js : List ℕ) → Linked next (g .«record_base») (recordSize (g .format .profile)) (g .count) head js → head < 4294967296
   head-fits next head [] l = omega (arith, none-linked next head l)
   head-fits next head (j ∷ js) l = omega (arith, first-address next head j js l, record-fits j (first-below next head j js l))
 
@@ -104,7 +105,7 @@ module _ (g : Sheet) (laid : Laid g) where
 
   module _ {head : ℕ} {a : Areas} {out : ℕ → Option Entry} {chain : List ℕ} (v : Invariant g head a out chain) where
     -- the image opens
-    pub opens : opening a ≡ opened.Sheet (headed g head)
+    pub opens : opening (g .format .profile) a ≡ opened.Sheet (headed g head)
     opens =
         rw (v .sheetIs)
         (sheet-opens (headed g head) (length (a .heap)) (length (a .records)) (fits head (head-fits (nextWord (g .format) (a .records)) head chain (v .linked)))

@@ -11,13 +11,13 @@ use lib.ListN.{length}
 use lib.Seq.{sets, length-sets}
 use Rattle.words.specs.Word.{part}
 use Rattle.words.proofs.Parts.{part-written, part-inside, part-place}
-use Rattle.chunks.specs.Chunk.{lawfulSize, freeChunk, grantedChunk, grantSize}
+use Rattle.chunks.specs.Chunk.{lawfulSize, freeChunk, grantedChunk, grantSize, clientOffset}
 use Rattle.chunks.proofs.Chunks.{length-freeChunk, length-grantedChunk, grant-within}
 use Rattle.chunks.specs.declared.chunk.Grant.{Grant}
-use Rattle.area.specs.Record.{stamped, withNext, nextAt, bufferAt, nextWord}
+use Rattle.area.specs.Record.{recordSize, stamped, withNext, nextAt, bufferAt, nextWord}
 use Rattle.area.specs.declared.record.Stamp.{Stamp}
 use Rattle.area.specs.declared.place.Place.the-variants.{Nowhere}
-use Rattle.area.proofs.Records.{length-stamped, stamped-word, length-withNext, next-same, next-other, next-name}
+use Rattle.area.proofs.Records.{record-least, length-stamped, stamped-word, length-withNext, next-same, next-other, next-name}
 use Rattle.sheet.specs.Areas.{Areas, chunkIn}
 use Rattle.geometry.specs.Sheet.{headed, heapLength, bufferAddress, recordAddress, bufferOf}
 use Rattle.geometry.specs.declared.sheet.Sheet.{Sheet}
@@ -59,7 +59,7 @@ module _ (g : Sheet) (laid : Laid g) where
   same-chunk c l j e el h =
       part-written l c (j * g .chunk) (g .chunk) (omega (arith, laid .law .sizes .chunks)) (omega (arith, chunk-inside g (laid .law) j h))
 
-  pub granted-keeps : {head : ℕ} {a : Areas} {out : ℕ → Option Entry} {j : ℕ} {js : List ℕ} (q : Grant) (t : Stamp) → lawfulSize (g .size) q ≡ true
+  pub granted-keeps : {head : ℕ} {a : Areas} {out : ℕ → Option Entry} {j : ℕ} {js : List ℕ} (q : Grant) (t : Stamp) → lawfulSize (g .format .profile) (g .size) q ≡ true
       → Invariant g head a out (j ∷ js)
       → Invariant g (nextWord (g .format) (a .records) j) (grantedAreas a q t (pairAt g laid head j))
       (put (bufferAddress g j) (some (fresh (g .format) (g .size) q)) out) js
@@ -76,7 +76,7 @@ module _ (g : Sheet) (laid : Laid g) where
         sheetIs = rw (v .sheetIs) (sheet-head (headed g head) (nextWord (g .format) (a .records) j));
         heapLong = length-sets (a .heap) (j * g .chunk) c ∙ v .heapLong;
         recordsLong = length-stamped (g .format) (a .records) j t ∙ v .recordsLong;
-        linked = linked-same (nextWord (g .format) (a .records)) (nextWord (g .format) r) (g .«record_base») (g .count) (nextWord (g .format) (a .records) j) js
+        linked = linked-same (nextWord (g .format) (a .records)) (nextWord (g .format) r) (g .«record_base») (recordSize (g .format .profile)) (g .count) (nextWord (g .format) (a .records) j) js
             (λ i m. sym (stamped-word (g .format) (a .records) j t i nextAt (omega arith)))
             (rest-linked g laid (nextWord (g .format) (a .records)) head j js (v .linked));
         each = each-entry j new out (λ i x. occ i js + outs x ≡ 1)
@@ -89,7 +89,7 @@ module _ (g : Sheet) (laid : Laid g) where
             ∙ fresh-chunk (g .format) (g .size) (recordAddress g j) q l)
             (λ i k ne. whole-chunk c (a .heap) (g .chunk) i j (omega (arith, laid .law .sizes .chunks)) ne ∙ v .chunks i k);
         names = λ i k. stamped-word (g .format) (a .records) j t i bufferAt (omega arith) ∙ v .names i k;
-        entries = each-entry j new out (λ i x. LawfulEntry (g .size) x)
+        entries = each-entry j new out (λ i x. LawfulEntry (g .format .profile) (g .size) x)
             (fresh-lawful (g .format) (g .size) q l) (λ i k ne. v .entries i k);
         stray = λ x e. stray-entry j new out x h e ∙ v .stray x e;
       }
@@ -109,9 +109,9 @@ module _ (g : Sheet) (laid : Laid g) where
       let leads : nextWord (g .format) r j ≡ head
       = stamped-word (g .format) before j t j nextAt (omega arith)
       ∙ next-same (g .format) (a .records) j head (head-fits g laid (nextWord (g .format) (a .records)) head chain (v .linked))
-      (omega (arith, v .recordsLong, record-inside g (laid .law) j h)) in
-      let kept : Linked (nextWord (g .format) r) (g .«record_base») (g .count) head chain
-      = linked-same (nextWord (g .format) (a .records)) (nextWord (g .format) r) (g .«record_base») (g .count) head chain
+      (omega (arith, v .recordsLong, record-inside g (laid .law) j h, record-least (g .format .profile))) in
+      let kept : Linked (nextWord (g .format) r) (g .«record_base») (recordSize (g .format .profile)) (g .count) head chain
+      = linked-same (nextWord (g .format) (a .records)) (nextWord (g .format) r) (g .«record_base») (recordSize (g .format .profile)) (g .count) head chain
       (λ i m. sym
       (stamped-word (g .format) before j t i nextAt (omega arith)
       ∙ next-other (g .format) (a .records) j head i (λ q. m (ap (λ (x : ℕ). occ x chain) q ∙ gone))))
@@ -120,7 +120,7 @@ module _ (g : Sheet) (laid : Laid g) where
         sheetIs = rw (v .sheetIs) (sheet-head (headed g head) (recordAddress g j));
         heapLong = length-sets (a .heap) (j * g .chunk) c ∙ v .heapLong;
         recordsLong = length-stamped (g .format) before j t ∙ length-withNext (g .format) (a .records) j head ∙ v .recordsLong;
-        linked = (h, (refl, subst (λ (x : ℕ). Linked (nextWord (g .format) r) (g .«record_base») (g .count) x chain) (sym leads) kept));
+        linked = (h, (refl, subst (λ (x : ℕ). Linked (nextWord (g .format) r) (g .«record_base») (recordSize (g .format .profile)) (g .count) x chain) (sym leads) kept));
         each = each-entry j none out (λ i x. occ i (j ∷ chain) + outs x ≡ 1)
             (omega (arith, occ-here j chain))
             (λ i k ne. omega (arith, v .each i k, occ-apart i j chain ne));
@@ -129,7 +129,7 @@ module _ (g : Sheet) (laid : Laid g) where
             (same-chunk c (a .heap) j long (v .heapLong) h)
             (λ i k ne. whole-chunk c (a .heap) (g .chunk) i j (omega (arith, laid .law .sizes .chunks)) ne ∙ v .chunks i k);
         names = λ i k. stamped-word (g .format) before j t i bufferAt (omega arith) ∙ next-name (g .format) (a .records) j head i ∙ v .names i k;
-        entries = each-entry j none out (λ i x. LawfulEntry (g .size) x) tt (λ i k ne. v .entries i k);
+        entries = each-entry j none out (λ i x. LawfulEntry (g .format .profile) (g .size) x) tt (λ i k ne. v .entries i k);
         stray = λ x q. stray-entry j none out x h q ∙ v .stray x q;
       }
 
@@ -140,23 +140,31 @@ module _ (g : Sheet) (laid : Laid g) where
   stored-keeps {head} {a} {out} {chain} j o offset bytes v h e fits =
       let l = entry-is g laid v j h (some o) e in
       let new : Option Entry = overwritten offset bytes (some o) in
-      let heap = sets (a .heap) (j * g .chunk + offset) bytes in
-      let inside : offset + length bytes ≤ g .chunk = omega (arith, grant-within (g .size) (o .grant) (l .0), laid .law .sizes .chunks) in
+      let start = clientOffset (g .format .profile) (o .grant) in
+      let at = j * g .chunk + start + offset in
+      let heap = sets (a .heap) at bytes in
+      let same : j * g .chunk + (start + offset) ≡ at = omega arith in
+      let inside : start + offset + length bytes ≤ g .chunk
+      = omega (arith, grant-within (g .format .profile) (g .size) (o .grant) (l .0), laid .law .sizes .chunks) in
       record {
         sheetIs = v .sheetIs;
-        heapLong = length-sets (a .heap) (j * g .chunk + offset) bytes ∙ v .heapLong;
+        heapLong = length-sets (a .heap) at bytes ∙ v .heapLong;
         recordsLong = v .recordsLong;
         linked = v .linked;
         each = each-entry j new out (λ i x. occ i chain + outs x ≡ 1)
             (omega (arith, v .each j h, ap outs e)) (λ i k ne. v .each i k);
         only = v .only;
         chunks = each-entry j new out (λ i x. chunkIn g heap i ≡ chunkFor (g .format) (g .size) (recordAddress g i) x)
-            (part-inside bytes (a .heap) (j * g .chunk) (g .chunk) offset inside
-            ∙ ap (λ (x : List ℕ). sets x offset bytes) (chunk-is g laid v j h (some o) e)
+            (ap (λ (x : ℕ). chunkIn g (sets (a .heap) x bytes) j) (sym same)
+            ∙ part-inside bytes (a .heap) (j * g .chunk) (g .chunk) (start + offset) inside
+            ∙ ap (λ (x : List ℕ). sets x (start + offset) bytes) (chunk-is g laid v j h (some o) e)
             ∙ store-chunk (g .format) (g .size) (recordAddress g j) offset bytes o l fits)
-            (λ i k ne. other-chunk bytes (a .heap) (g .chunk) i j offset inside ne ∙ v .chunks i k);
+            (λ i k ne.
+            ap (λ (x : ℕ). chunkIn g (sets (a .heap) x bytes) i) (sym same)
+            ∙ other-chunk bytes (a .heap) (g .chunk) i j (start + offset) inside ne
+            ∙ v .chunks i k);
         names = v .names;
-        entries = each-entry j new out (λ i x. LawfulEntry (g .size) x)
-            (store-lawful (g .size) offset bytes o l) (λ i k ne. v .entries i k);
+        entries = each-entry j new out (λ i x. LawfulEntry (g .format .profile) (g .size) x)
+            (store-lawful (g .format .profile) (g .size) offset bytes o l) (λ i k ne. v .entries i k);
         stray = λ x q. stray-entry j new out x h q ∙ v .stray x q;
       }

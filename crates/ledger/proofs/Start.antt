@@ -15,7 +15,7 @@ use Rattle.tags.specs.declared.refusal.Refusal.the-variants.{BadSheet, BadNumbe
 use Rattle.tags.specs.declared.refusal.Answer.{Answer}
 use Rattle.tags.specs.declared.refusal.Answer.the-variants.{Refused}
 use Rattle.area.specs.Record.{recordSize, nextAt, bufferAt, addressWord, nextWord}
-use Rattle.area.proofs.Records.{flat-word, whole-next, whole-name}
+use Rattle.area.proofs.Records.{record-least, flat-word, whole-next, whole-name}
 use Rattle.sheet.specs.Areas.{Areas, Result, result, refusedWith}
 use Rattle.sheet.specs.Fields.{sheetLength}
 use Rattle.geometry.specs.Sheet.{laidSheet, bufferAddress}
@@ -40,16 +40,16 @@ module _ (g : Sheet) (laid : Laid g) where
 
   laid-next : (j : ℕ) → j < g .count → nextWord (g .format) (flat (g .count) (laidRecord g)) j ≡ linkTo g (suc j)
   laid-next j h =
-      flat-word (g .format) (laidRecord g) (laid-record-long g) (g .count) j nextAt h (omega arith)
+      flat-word (g .format) (laidRecord g) (laid-record-long g) (g .count) j nextAt h (omega (arith, record-least (g .format .profile)))
       ∙ whole-next (g .format) (linkTo g (suc j)) (bufferAddress g j) (g .cache) (link-fits (suc j))
 
   laid-name : (j : ℕ) → j < g .count → addressWord (g .format) (flat (g .count) (laidRecord g)) j ≡ bufferAddress g j
   laid-name j h =
-      flat-word (g .format) (laidRecord g) (laid-record-long g) (g .count) j bufferAt h (omega arith)
+      flat-word (g .format) (laidRecord g) (laid-record-long g) (g .count) j bufferAt h (omega (arith, record-least (g .format .profile)))
       ∙ whole-name (g .format) (linkTo g (suc j)) (bufferAddress g j) (g .cache) (omega (arith, buffer-word g (laid .law) j h, chunk-some g laid))
 
   laid-linked : (i m : ℕ) → i + m ≡ g .count
-      → Linked (nextWord (g .format) (flat (g .count) (laidRecord g))) (g .«record_base») (g .count) (linkTo g i) (range i m)
+      → Linked (nextWord (g .format) (flat (g .count) (laidRecord g))) (g .«record_base») (recordSize (g .format .profile)) (g .count) (linkTo g i) (range i m)
   unfolding Linked range
   laid-linked i zero e = link-out g i (omega arith)
   laid-linked i (suc m) e =
@@ -57,7 +57,7 @@ module _ (g : Sheet) (laid : Laid g) where
         h,
         (
           link-in g i h,
-          subst (λ (x : ℕ). Linked (nextWord (g .format) (flat (g .count) (laidRecord g))) (g .«record_base») (g .count) x (range (suc i) m))
+          subst (λ (x : ℕ). Linked (nextWord (g .format) (flat (g .count) (laidRecord g))) (g .«record_base») (recordSize (g .format .profile)) (g .count) x (range (suc i) m))
               (sym (laid-next i h))
               (laid-linked (suc i) m (omega arith)),
         ),
@@ -68,8 +68,8 @@ module _ (g : Sheet) (laid : Laid g) where
   laid-invariant e = record {
     sheetIs = refl;
     heapLong = length-flat (g .chunk) (laidChunk g) (laid-chunk-long g (laid .law)) (g .count);
-    recordsLong = length-flat recordSize (laidRecord g) (laid-record-long g) (g .count);
-    linked = subst (λ (x : ℕ). Linked (nextWord (g .format) (flat (g .count) (laidRecord g))) (g .«record_base») (g .count) x (range 0 (g .count)))
+    recordsLong = length-flat (recordSize (g .format .profile)) (laidRecord g) (laid-record-long g) (g .count);
+    linked = subst (λ (x : ℕ). Linked (nextWord (g .format) (flat (g .count) (laidRecord g))) (g .«record_base») (recordSize (g .format .profile)) (g .count) x (range 0 (g .count)))
         (link-in g 0 (laid .law .sizes .some) ∙ omega arith)
         (laid-linked 0 (g .count) (omega arith));
     each = λ j h. omega (arith, occ-within 0 (g .count) j (omega arith) (omega arith));

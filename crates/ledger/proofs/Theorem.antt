@@ -79,19 +79,24 @@ module _ (g : Sheet) (laid : Laid g) where
         go (yes h) m = (j, (h, (own-is g laid v j h, none-out (out (bufferAddress g j)) (omega (arith, v .each j h)))))
         go (no h) m = absurd (m (v .only j (omega arith)))
 
-    shows : (x : ℕ) (o : Entry) → out x ≡ some o
-        → (at : ℕ) × ((len : ℕ) × ((shownOf a x ≡ shown.Client at len) × (part (a .heap) at len ≡ o .client)))
+    abbrev Shown : ℕ → Entry → Type 0
+    Shown x o =
+        (buffer : ℕ)
+        × ((start : ℕ)
+        × ((len : ℕ) × ((shownOf (g .format .profile) a x ≡ shown.Client buffer start len) × (part (a .heap) (buffer + start) len ≡ o .client))))
+
+    shows : (x : ℕ) (o : Entry) → out x ≡ some o → Shown x o
     shows x o =
         by-address g laid out
-        (λ y. (o : Entry) → out y ≡ some o → (at : ℕ) × ((len : ℕ) × ((shownOf a y ≡ shown.Client at len) × (part (a .heap) at len ≡ o .client))))
+        (λ y. (o : Entry) → out y ≡ some o → Shown y o)
         (λ y e o f. absurd (not-entry (out y) o (v .stray y e) f))
         (λ j h e o f. absurd (not-entry (out (bufferAddress g j)) o e f))
-        (λ j h p e o f. (_, (_, (show-out g laid v j h o f, client-is g laid v j h o f))))
+        (λ j h p e o f. (_, (_, (_, (show-out g laid v j h o f, client-is g laid v j h o f)))))
         x o
 
   full : {head : ℕ} {a : Areas} {out : ℕ → Option Entry} (chain : List ℕ) → Invariant g head a out chain → (q : Grant) (t : Stamp)
-      → lawfulSize (g .size) q ≡ true
-      → (allocateOf a q t .answer ≡ answer.Refused NoRoom) ↔ ((i : ℕ) → i < g .count → isOut (out (bufferAddress g i)) ≡ true)
+      → lawfulSize (g .format .profile) (g .size) q ≡ true
+      → (allocateOf (g .format .profile) a q t .answer ≡ answer.Refused NoRoom) ↔ ((i : ℕ) → i < g .count → isOut (out (bufferAddress g i)) ≡ true)
   full {out = out} [] v q t e = (
     λ _ i h. is-out (out (bufferAddress g i)) (omega (arith, v .each i h, occ-none i)),
     λ _. ap (λ (r : Result Answer). r .answer) (allocate-none g laid v q t e),
@@ -103,8 +108,8 @@ module _ (g : Sheet) (laid : Laid g) where
   )
 
   accepts : {head : ℕ} {a : Areas} {out : ℕ → Option Entry} (chain : List ℕ) → Invariant g head a out chain → (q : Grant) (t : Stamp)
-      → lawfulSize (g .size) q ≡ true → (allocateOf a q t .answer ≢ answer.Refused NoRoom)
-      → (i : ℕ) × ((i < g .count) × ((out (bufferAddress g i) ≡ none) × (allocateOf a q t .answer ≡ answer.Value (bufferAddress g i))))
+      → lawfulSize (g .format .profile) (g .size) q ≡ true → (allocateOf (g .format .profile) a q t .answer ≢ answer.Refused NoRoom)
+      → (i : ℕ) × ((i < g .count) × ((out (bufferAddress g i) ≡ none) × (allocateOf (g .format .profile) a q t .answer ≡ answer.Value (bufferAddress g i))))
   accepts [] v q t e ne = absurd (ne (ap (λ (r : Result Answer). r .answer) (allocate-none g laid v q t e)))
   accepts (j ∷ js) v q t e ne = (
     j,

@@ -1,5 +1,5 @@
--- The worked cases P1 to P12, as one table for each order: buffer size 24. The words are the same in both; their bytes, and so the first byte that
--- differs in P9, are those of the order. Assumes nothing.
+-- The worked cases P1 to P12 of the kernel's profile, and those of userland's, as one table each for each order: buffer size 24. The words are the same in
+-- both orders; their bytes, and so the first byte that differs in P9, are those of the order. Assumes nothing.
 use mathlib.Core.Path.{_≡_}
 use mathlib.Core.Bool.{Bool, true, false}
 use mathlib.Core.List.{List, [], _∷_, _++_}
@@ -10,10 +10,12 @@ use Rattle.words.specs.declared.word.Order.{Order}
 use Rattle.words.specs.declared.word.Order.the-variants.{HighFirst, LowFirst}
 use Rattle.runs.specs.Run.{repeated}
 use Rattle.words.specs.Age.{ageOf}
-use Rattle.tags.specs.Format.{wordBytes}
+use Rattle.tags.specs.Format.{byProfile, wordBytes}
 use Rattle.tags.specs.declared.format.Format.{Format}
+use Rattle.tags.specs.declared.format.Profile.{Profile}
 use Rattle.tags.specs.Tag.{stateWord}
-use Rattle.chunks.specs.Chunk.{redzone, freeFill, grantFill, guard, chunkOf}
+use Rattle.chunks.specs.Chunk.{redzone, freeFill, grantFill, guard, chunkOf, grantedChunk}
+use Rattle.chunks.specs.declared.chunk.Grant.{Grant}
 use Rattle.tags.specs.Verdict.{verdictNumber, verdictValue}
 use Rattle.tags.specs.declared.tag.State.{State}
 use Rattle.tags.specs.declared.tag.State.the-variants as state
@@ -63,6 +65,8 @@ pub data Check : Type 0 where
   aged : (time first second : ℕ) (age₁ age₂ : ℕ) → Check
   -- calls made in the fresh image, and the number of the refusal of an allocate after them
   next : (calls : List Call) (number : ℕ) → Check
+  -- a grant, and the chunk that it makes of a buffer whose record is at an address
+  granted : (q : Grant) (address : ℕ) (chunk : List ℕ) → Check
 
 -- what a check claims of images of a format
 abbrev pub ClaimOf : Format → Check → Type 0
@@ -72,7 +76,8 @@ ClaimOf f (examined c a met number value) =
 ClaimOf f (aged time first second age₁ age₂) =
     (ageOf 32 time first ≡ age₁) × (ageOf 32 time second ≡ age₂) × (rowLatest f time first second ≡ true) × (rowLatest f time second first ≡ false)
 ClaimOf f (next calls number) =
-    refusedAs (resultOf (allocate grant.Whole (stampOf 4 7)) (run f 24 calls (begun (freshAreas f)) .areas) .answer) ≡ number
+    refusedAs (resultOf (f .profile) (allocate grant.Whole (stampOf 4 7)) (run f 24 calls (begun (freshAreas f)) .areas) .answer) ≡ number
+ClaimOf f (granted q a chunk) = grantedChunk f 24 a q ≡ chunk
 
 -- every check of a list holds
 abbrev pub AllClaims : Format → List Check → Type 0
@@ -117,3 +122,34 @@ checks f =
     ∷ aged 0x10 0xfffffff0 8 32 8
     ∷ next (allocate grant.Whole (stampOf 1 7) ∷ allocate grant.Whole (stampOf 2 7) ∷ allocate grant.Whole (stampOf 3 7) ∷ []) 5
     ∷ []
+
+-- ---- userland
+
+-- a buffer of 24 bytes that starts with two words, and is filled behind them
+abbrev headedWith : Format → ℕ → ℕ → List ℕ
+headedWith f first second = wordBytes f first ++ wordBytes f second ++ repeated 16 (wordBytes f grantFill)
+
+-- U4, U6 (a request of 10): the coded size 0x12, the header's words 0x12 and 0x3a10bfee, the code 0x11a7, and the guard at 18
+abbrev workedChunk : Format → List ℕ
+workedChunk f = allocatedWith f (set (headedWith f 0x12 0x3a10bfee) 18 guard) redzone 0x11a7
+
+unfoldable pub userlandChecks : Format → List Check
+userlandChecks f =
+    granted (grant.Sized 10) 0x70ae3200 (workedChunk f)
+    -- found as granted
+    ∷ examined (workedChunk f) 0x70ae3200 false 2 10
+    -- V30 (the first word, the second, a coded size below 9)
+    ∷ examined (allocatedWith f (set (headedWith f 0x13 0x3a10bfee) 18 guard) redzone 0x11a7) 0x70ae3200 false 30 0
+    ∷ examined (allocatedWith f (set (headedWith f 0x12 0x3a10bfef) 18 guard) redzone 0x11a7) 0x70ae3200 false 30 0
+    ∷ examined (allocatedWith f (set (headedWith f 8 0x3a10bff8) 8 guard) redzone 0x7d9) 0x70ae3200 false 30 0
+    -- V28 comes before V30
+    ∷ examined (allocatedWith f (headedWith f 0x13 0x3a10bfee) redzone 0x11a7) 0x70ae3200 false 28 18
+    -- C8, U5 (the largest request)
+    ∷ examined (allocatedWith f (headedWith f 0x18 0x3a10bfe8) (guardedZone (f .order)) 0x1789) 0x70ae3200 false 2 16
+    -- a whole grant has no header
+    ∷ examined (allocatedWith f (filledWith f 0) redzone redzone) 0x70ae3200 false 1 0
+    ∷ []
+
+-- the table of a profile
+abbrev pub tableOf : Profile → Format → List Check
+tableOf p f = byProfile p (checks f) (userlandChecks f)

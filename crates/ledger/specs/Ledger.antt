@@ -14,6 +14,7 @@ use Rattle.tags.specs.Format.{wordBytes}
 use Rattle.tags.specs.Refusal.{done}
 use Rattle.tags.specs.Verdict.{verdictNumber, isFault, isFoundAllocated}
 use Rattle.tags.specs.declared.format.Format.{Format}
+use Rattle.tags.specs.declared.format.Profile.{Profile}
 use Rattle.tags.specs.declared.ending.Ending.the-variants.{End}
 use Rattle.tags.specs.declared.refusal.Refusal.the-variants.{NoRoom, NotAllocated}
 use Rattle.tags.specs.declared.refusal.Answer.{Answer}
@@ -47,11 +48,11 @@ pub data Call : Type 0 where
   free : (address : ℕ) (q : Grant) (s : Stamp) → Call
   store : (address offset : ℕ) (bytes : List ℕ) → Call
 
--- K and E: each call refuses, answers and writes as its own definition says
-abbrev pub resultOf : Call → Areas → Result Answer
-resultOf (allocate q s) a = allocateOf a q s
-resultOf (free address q s) a = freeOf a address q s
-resultOf (store address offset bytes) a = storeOf a address offset bytes
+-- K and E, U1: each call refuses, answers and writes as its own definition says, under a profile
+abbrev pub resultOf : Profile → Call → Areas → Result Answer
+resultOf p (allocate q s) a = allocateOf p a q s
+resultOf p (free address q s) a = freeOf p a address q s
+resultOf p (store address offset bytes) a = storeOf p a address offset bytes
 
 -- ---- the ledger
 
@@ -115,11 +116,11 @@ pub record RunState : Type 0 where
 abbrev pub begun : Areas → RunState
 begun a = record { areas = a; ledger = record { out = λ x. none; allocations = 0; frees = 0 } }
 
--- one call: it gets the areas as they are, and its answer goes into the ledger
+-- one call: it gets the areas as they are and the profile that they were laid out under, and its answer goes into the ledger
 abbrev pub step : Format → ℕ → Call → RunState → RunState
 step f size call w = record {
-  areas = resultOf call (w .areas) .areas;
-  ledger = afterCall f size call (resultOf call (w .areas) .answer) (w .ledger);
+  areas = resultOf (f .profile) call (w .areas) .areas;
+  ledger = afterCall f size call (resultOf (f .profile) call (w .areas) .answer) (w .ledger);
 }
 
 -- a list of calls, which may be empty: each gets the areas as the one before left them
@@ -163,10 +164,10 @@ imageAt w g = imageOf (w .areas) g
 
 -- the claim, of an image that was laid out with the numbers `laid`
 pub record Sound (laid : Sheet) (w : RunState) : Type 0 where
-  -- B6: the image opens, and its sheet is the one laid out but for the head
+  -- B6: the image opens under the profile that it was laid out under, and its sheet is the one laid out but for the head
   pub sheet : Sheet
   pub onlyHead : sheet ≡ headed laid (sheet .head)
-  pub opens : opening (w .areas) ≡ opened.Sheet sheet
+  pub opens : opening (laid .format .profile) (w .areas) ≡ opened.Sheet sheet
   -- B7: no buffer has a fault
   pub noFault : (i : ℕ) → i < laid .count → isFault (verdictNumber (verdictOf (imageAt w sheet) i)) ≡ false
   -- B8: the buffers found allocated are those that are out, each as last granted, and all others are found free
@@ -185,21 +186,24 @@ pub record Sound (laid : Sheet) (w : RunState) : Type 0 where
       → (i : ℕ) × ((i < laid .count) × ((ownOf (imageAt w sheet) i ≡ One j) × (w .ledger .out (bufferAddress laid i) ≡ none)))
   -- B11: show answers the client bytes of a buffer that is out, and refuses one that is not
   pub shows : (a : ℕ) (o : Entry) → w .ledger .out a ≡ some o
-      → (at : ℕ) × ((len : ℕ) × ((shownOf (w .areas) a ≡ shown.Client at len) × (part (w .areas .heap) at len ≡ o .client)))
+      → (buffer : ℕ)
+      × ((start : ℕ)
+      × ((len : ℕ)
+      × ((shownOf (laid .format .profile) (w .areas) a ≡ shown.Client buffer start len) × (part (w .areas .heap) (buffer + start) len ≡ o .client))))
   pub hides : (i : ℕ) → i < laid .count → w .ledger .out (bufferAddress laid i) ≡ none
-      → shownOf (w .areas) (bufferAddress laid i) ≡ shown.Refused NotAllocated
+      → shownOf (laid .format .profile) (w .areas) (bufferAddress laid i) ≡ shown.Refused NotAllocated
   -- B12: a request of lawful size, which X6 does not fit, is refused for want of room, X5, exactly when all buffers are out; else it is accepted, with
   -- the address of a buffer that is not out
-  pub room : (q : Grant) (s : Stamp) → lawfulSize (laid .size) q ≡ true
-      → (allocateOf (w .areas) q s .answer ≡ answer.Refused NoRoom)
+  pub room : (q : Grant) (s : Stamp) → lawfulSize (laid .format .profile) (laid .size) q ≡ true
+      → (allocateOf (laid .format .profile) (w .areas) q s .answer ≡ answer.Refused NoRoom)
       ↔ ((i : ℕ) → i < laid .count → isOut (w .ledger .out (bufferAddress laid i)) ≡ true)
-  pub accepts : (q : Grant) (s : Stamp) → lawfulSize (laid .size) q ≡ true
-      → (allocateOf (w .areas) q s .answer ≢ answer.Refused NoRoom)
+  pub accepts : (q : Grant) (s : Stamp) → lawfulSize (laid .format .profile) (laid .size) q ≡ true
+      → (allocateOf (laid .format .profile) (w .areas) q s .answer ≢ answer.Refused NoRoom)
       → (i : ℕ)
       × ((i < laid .count)
-      × ((w .ledger .out (bufferAddress laid i) ≡ none) × (allocateOf (w .areas) q s .answer ≡ answer.Value (bufferAddress laid i))))
+      × ((w .ledger .out (bufferAddress laid i) ≡ none) × (allocateOf (laid .format .profile) (w .areas) q s .answer ≡ answer.Value (bufferAddress laid i))))
 
--- B6 to B12, one claim about the whole list: after an accepted lay out, in either order, whose cache address is a word, and any calls
+-- B6 to B12, one claim about the whole list: after an accepted lay out, under either profile and in either order, whose cache address is a word, and any calls
 abbrev pub Claim : Type 0
 Claim = (a : Areas) (f : Format) (cache heap records size n : ℕ) → cache < 4294967296 → layOutOf a f cache heap records size n .answer ≡ done
     → (calls : List Call)

@@ -9,7 +9,7 @@ use Rattle.tags.specs.declared.ending.Ending.the-variants.{End, Broken, Again}
 use Rattle.tags.specs.Verdict.{verdictNumber, verdictValue}
 use Rattle.tags.specs.declared.verdict.Verdict.{Verdict}
 use Rattle.tags.specs.declared.verdict.Verdict.the-variants.{Free, Whole, Allocated, NotOneRecord, BadTag, FreedTwice, OffChain, OnChain}
-use Rattle.tags.specs.declared.verdict.Verdict.the-variants.{BadFill, BadRedzone, BadSizeCode, Overrun}
+use Rattle.tags.specs.declared.verdict.Verdict.the-variants.{BadFill, BadRedzone, BadSizeCode, Overrun, BadHeader}
 use Rattle.words.specs.Word.{flat}
 use Rattle.words.specs.Sum.{total}
 use Rattle.lines.specs.Text.{ascii, decimalWith, hasOffset, lineOf, faultLineOf, chainLineOf, textOf}
@@ -36,7 +36,7 @@ offset-case = (refl, refl)
 
 -- the faults that have none
 pub fault-case :
-    Says (NotOneRecord ∷ BadTag ∷ FreedTwice ∷ OffChain ∷ OnChain ∷ BadSizeCode ∷ []) 10 (Again 2)
-    "heap report 1\n0 fault 20\n1 fault 21\n2 fault 22\n3 fault 23\n4 fault 24\n5 fault 27\nchain 10 again 2\nfaults 6\n" 106
+    Says (NotOneRecord ∷ BadTag ∷ FreedTwice ∷ OffChain ∷ OnChain ∷ BadSizeCode ∷ BadHeader ∷ []) 10 (Again 2)
+    "heap report 1\n0 fault 20\n1 fault 21\n2 fault 22\n3 fault 23\n4 fault 24\n5 fault 27\n6 fault 30\nchain 10 again 2\nfaults 7\n" 117
 unfolding decimalWith hasOffset lineOf faultLineOf flat chainLineOf total textOf
 fault-case = (refl, refl)

@@ -16,7 +16,7 @@ use Rattle.tags.specs.declared.ending.Ending.{Ending}
 use Rattle.tags.specs.declared.ending.Ending.the-variants.{End, Broken, Again}
 use Rattle.tags.specs.declared.verdict.Verdict.{Verdict}
 use Rattle.tags.specs.declared.verdict.Verdict.the-variants.{Free, Whole, Allocated, NotOneRecord, BadTag, FreedTwice, OffChain, OnChain}
-use Rattle.tags.specs.declared.verdict.Verdict.the-variants.{BadFill, BadRedzone, BadSizeCode, Overrun}
+use Rattle.tags.specs.declared.verdict.Verdict.the-variants.{BadFill, BadRedzone, BadSizeCode, Overrun, BadHeader}
 use Rattle.lines.specs.Text.{ascii, decimalWith, decimalOf, fieldOf, headerOf, hasOffset, faultLineOf, lineOf, linesOf, chainLineOf}
 use Rattle.lines.specs.Text.{faultOf, faultsIn, faultsOf, textOf, Wrote, writing, mostBuffers, lineMost, chainMost, faultsMost, longest}
 use Rattle.lines.specs.declared.text.Written.{Written}
@@ -143,6 +143,7 @@ verdict-small (BadFill o) = lit≤ tt
 verdict-small (BadRedzone o) = lit≤ tt
 verdict-small BadSizeCode = lit≤ tt
 verdict-small (Overrun o) = lit≤ tt
+verdict-small BadHeader = lit≤ tt
 
 -- ---- the whole text
 

@@ -43,7 +43,7 @@ pub fn write_granted(heap: &mut [u8], g: Sheet, i: usize, record_at: u32, grant:
     requires { ⌜ Lawful g ⌝ }
     requires { ⌜ length (now heap) ≡ heapLength g ⌝ }
     requires { ⌜ i < g .count ⌝ }
-    requires { ⌜ lawfulSize (g .size) grant ≡ true ⌝ }
+    requires { ⌜ lawfulSize (g .format .profile) (g .size) grant ≡ true ⌝ }
     ensures { λ _. ⌜ now (heap .exit)
         ≡ sets (now (heap .entry)) (chunkPlace g i) (grantedChunk (g .format) (g .size) «record_at» grant) ⌝ }
 {

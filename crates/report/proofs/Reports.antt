@@ -5,6 +5,7 @@ use Prim.Native.Nat.{ℕ, _≤_}
 use native.Mathlib.Omega.{arith}
 use lib.ListN.{length}
 use Rattle.tags.specs.Filling.{Filling, filling, unfilled}
+use Rattle.tags.specs.declared.format.Profile.{Profile}
 use Rattle.tags.specs.declared.ending.Ending.{Ending}
 use Rattle.tags.specs.declared.refusal.Answer.{Answer}
 use Rattle.tags.specs.declared.refusal.Answer.the-variants.{Value, Refused}
@@ -48,21 +49,21 @@ reporting-known text output k = go (writing text output .answer) (writing text o
     go (written.Length n) x e f = let z : written.Length n ≡ written.Length k = cc in written-known text output (written.Length n) x k e z
     go written.Short x e f = absurd (let z : _≡_ {A = ℕ} 0 1 = cc in omega arith)
 
-report-known : (a : Areas) (l : ℕ) (output : List ℕ) (k : ℕ) → reportOf a l output .answer ≡ Value k → (k ≤ 65535) × (k ≤ length output)
+report-known : (p : Profile) (a : Areas) (l : ℕ) (output : List ℕ) (k : ℕ) → reportOf p a l output .answer ≡ Value k → (k ≤ 65535) × (k ≤ length output)
 unfolding reportOf
-report-known a l output k =
+report-known p a l output k =
     by-opened {f = λ g. reporting (reportText (imageOf a g)) output} {shut = λ why. unfilled (Refused why) output}
-    (λ (x : Filling Answer ℕ). x .answer ≡ Value k → (k ≤ 65535) × (k ≤ length output)) (openingWithLog a l)
+    (λ (x : Filling Answer ℕ). x .answer ≡ Value k → (k ≤ 65535) × (k ≤ length output)) (openingWithLog p a l)
     (λ g e q.
-    let s = logged-known _ _ _ _ g e .0 .opens .law .sizes in
+    let s = logged-known _ _ _ _ _ g e .0 .opens .law .sizes in
     let h = reporting-known (reportText (imageOf a g)) output k q in
     (omega (arith, h .0, report-text-short (imageOf a g) s, s .few), h .1))
     (λ why q. absurd (let z : _≡_ {A = ℕ} 0 1 = cc in omega arith))
 
 -- G8, S5 (at most 512 buffers): the length that is answered is small
-pub report-short : (a : Areas) (l : ℕ) (output : List ℕ) (k : ℕ) → reportOf a l output .answer ≡ Value k → k ≤ 65535
-report-short a l output k q = report-known a l output k q .0
+pub report-short : (p : Profile) (a : Areas) (l : ℕ) (output : List ℕ) (k : ℕ) → reportOf p a l output .answer ≡ Value k → k ≤ 65535
+report-short p a l output k q = report-known p a l output k q .0
 
 -- and all of the text stands in the output
-pub report-fits : (a : Areas) (l : ℕ) (output : List ℕ) (k : ℕ) → reportOf a l output .answer ≡ Value k → k ≤ length output
-report-fits a l output k q = report-known a l output k q .1
+pub report-fits : (p : Profile) (a : Areas) (l : ℕ) (output : List ℕ) (k : ℕ) → reportOf p a l output .answer ≡ Value k → k ≤ length output
+report-fits p a l output k q = report-known p a l output k q .1

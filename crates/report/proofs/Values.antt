@@ -15,7 +15,7 @@ use Rattle.words.proofs.Tests.{by-test}
 use Rattle.tags.specs.Format.{wordBytes}
 use Rattle.tags.specs.SizeCode.{decodedOf}
 use Rattle.tags.specs.Tag.{patternOf, isNeither, isFree, isAllocated}
-use Rattle.tags.specs.Verdict.{verdictValue}
+use Rattle.tags.specs.Verdict.{verdictNumber, verdictValue}
 use Rattle.tags.specs.declared.format.Format.{Format}
 use Rattle.tags.specs.declared.size_code.Decoded.{Decoded}
 use Rattle.tags.specs.declared.size_code.Decoded.the-variants as decoded
@@ -24,7 +24,8 @@ use Rattle.tags.specs.declared.verdict.Verdict.{Verdict}
 use Rattle.tags.specs.declared.verdict.Verdict.the-variants.{Free, Whole, Allocated, NotOneRecord, BadFill, BadRedzone, BadSizeCode, Overrun}
 use Rattle.tags.proofs.Tags.{decoded-within}
 use Rattle.chunks.specs.Chunk.{bufferSize, freeFill, redzone, guard, tagAt}
-use Rattle.chunks.specs.Judge.{byDifference, byDecoded, r1Of, freeVerdict, zoneVerdict, zoneAfter, sizedVerdict, allocatedVerdict}
+use Rattle.chunks.specs.Header.{headerRight}
+use Rattle.chunks.specs.Judge.{byDifference, byDecoded, r1Of, freeVerdict, zoneVerdict, zoneAfter, sizedVerdict, codedVerdict, headerVerdict, headedVerdict, allocatedVerdict}
 use Rattle.geometry.specs.Sheet.{chunkPlace, recordAddress}
 use Rattle.sheet.specs.Areas.{Image, chunkAt}
 use Rattle.chain.specs.Chain.{chainOf}
@@ -73,15 +74,25 @@ module _ (f : Format) (c : List ℕ) where
       by-test (Small c) (eqb (getD c s 0) guard)
       (λ _. zone-small c (zoneAfter f s (bufferSize c)) (Allocated s) (omega arith)) (λ _. omega arith)
 
-  allocated-small : Small c (allocatedVerdict f c)
-  unfolding allocatedVerdict
-  allocated-small =
+  coded-small : Small c (codedVerdict f c)
+  unfolding codedVerdict
+  coded-small =
       by-test (Small c) (eqb (r1Of f c) redzone)
       (λ _. zone-small c (wordBytes f redzone) Whole (omega arith)) (λ _. go (decodedOf (r1Of f c) (bufferSize c)) refl)
     where
       go : (d : Decoded) → decodedOf (r1Of f c) (bufferSize c) ≡ d → Small c (byDecoded d (sizedVerdict f c) BadSizeCode)
       go (decoded.Size s) e = sized-small s (decoded-within (r1Of f c) (bufferSize c) s e .1)
       go decoded.Bad e = omega arith
+
+  -- a request is no more than its coded size
+  header-small : (s : ℕ) → s ≤ bufferSize c + 8 → Small c (headerVerdict f c s)
+  unfolding headerVerdict
+  header-small s h = by-test (Small c) (headerRight f c s) (λ _. omega arith) (λ _. omega arith)
+
+  allocated-small : Small c (allocatedVerdict f c)
+  unfolding allocatedVerdict headedVerdict
+  allocated-small =
+      by-test (Small c) (eqb (verdictNumber (codedVerdict f c)) 2) (λ _. header-small (verdictValue (codedVerdict f c)) coded-small) (λ _. coded-small)
 
   -- ---- one buffer
 

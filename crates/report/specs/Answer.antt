@@ -4,6 +4,7 @@ use Prim.Native.Nat.{ℕ}
 use lib.ListN.{length}
 use Rattle.tags.specs.Verdict.{verdictNumber, verdictValue}
 use Rattle.tags.specs.Filling.{Filling, unfilled, told}
+use Rattle.tags.specs.declared.format.Profile.{Profile}
 use Rattle.tags.specs.declared.refusal.Refusal.the-variants.{ShortOutput}
 use Rattle.tags.specs.declared.refusal.Answer.{Answer}
 use Rattle.tags.specs.declared.refusal.Answer.the-variants.{Value, Refused}
@@ -35,5 +36,5 @@ abbrev pub reporting : List ℕ → List ℕ → Filling Answer ℕ
 reporting text output = told reportedBy (writing text output)
 
 -- G3 (the report), after E3 with the log
-unfoldable pub reportOf : Areas → ℕ → List ℕ → Filling Answer ℕ
-reportOf a l output = byImage (openingWithLog a l) a (λ m. reporting (reportText m) output) (λ why. unfilled (Refused why) output)
+unfoldable pub reportOf : Profile → Areas → ℕ → List ℕ → Filling Answer ℕ
+reportOf p a l output = byImage (openingWithLog p a l) a (λ m. reporting (reportText m) output) (λ why. unfilled (Refused why) output)

@@ -12,6 +12,7 @@ use geometry::sheet::Sheet;
 use lines::text::Written;
 use sheet::opening;
 use sheet::opening::Opened;
+use tags::format::Profile;
 use tags::refusal::Answer;
 use tags::refusal::Refusal;
 
@@ -49,11 +50,18 @@ fn report_image(heap: &[u8], records: &[u8], g: Sheet, output: &mut [u8]) -> Ans
 }
 
 // Writes the report of an image to the output's start and answers its length.
-pub fn report(sheet: &[u8], heap: &[u8], records: &[u8], log: &[u8], output: &mut [u8]) -> Answer
+pub fn report(
+    profile: Profile,
+    sheet: &[u8],
+    heap: &[u8],
+    records: &[u8],
+    log: &[u8],
+    output: &mut [u8],
+) -> Answer
     ensures { λ r. ⌜ filling r (now (output .exit))
-        ≡ reportOf (before sheet heap records) (length (now (log .entry))) (now (output .entry)) ⌝ }
+        ≡ reportOf profile (before sheet heap records) (length (now (log .entry))) (now (output .entry)) ⌝ }
 {
-    let opened = opening::open_with_log(sheet, heap.len(), records.len(), log.len());
+    let opened = opening::open_with_log(profile, sheet, heap.len(), records.len(), log.len());
     match opened {
         Opened::Refused(why) => Answer::Refused(why),
         Opened::Sheet(g) => report_image(heap, records, g, output),

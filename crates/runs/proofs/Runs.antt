@@ -15,7 +15,7 @@ use Rattle.words.specs.Native.{lowBytes}
 use Rattle.runs.specs.Run.{repeated, differenceFrom, difference}
 use Rattle.runs.specs.declared.run.Difference.{Difference}
 use Rattle.runs.specs.declared.run.Difference.the-variants.{At, Nowhere}
-use Rattle.words.proofs.Parts.{length-part, getD-part, part-two, sets-then}
+use Rattle.words.proofs.Parts.{length-part, getD-part, part-right, part-two, sets-then}
 
 -- ---- a word again and again
 
@@ -36,9 +36,18 @@ getD-repeated (suc n) w i h = go (ℕ-discrete i n) (getD-repeated n w i)
         let g : i < n = omega arith in
         List·getD-append (repeated n w) (getD w (n % 4) 0 ∷ []) 0 i (omega (arith, length-repeated n w)) ∙ ih g
 
+-- a run behind whole words
+pub repeated-add : (i n : ℕ) (w : List ℕ) → i % 4 ≡ 0 → repeated (i + n) w ≡ repeated i w ++ repeated n w
+unfolding repeated
+repeated-add i zero w h = rw (add-zero i, append-nil)
+repeated-add i (suc n) w h =
+    let e : i + suc n ≡ suc (i + n) = omega arith in
+    let m : (i + n) % 4 ≡ n % 4 = omega arith in
+    rw (e, m, repeated-add i n w h) (append-assoc (repeated i w) (repeated n w) (getD w (n % 4) 0 ∷ []))
+
 -- its first bytes
-pub part-repeated : (n k : ℕ) (w : List ℕ) → k ≤ n → part (repeated n w) 0 k ≡ repeated k w
-part-repeated n k w h =
+front-repeated : (n k : ℕ) (w : List ℕ) → k ≤ n → part (repeated n w) 0 k ≡ repeated k w
+front-repeated n k w h =
     let e : length (part (repeated n w) 0 k) ≡ k = length-part (repeated n w) 0 k (omega (arith, length-repeated n w)) in
     ext-getD 0 (part (repeated n w) 0 k) (repeated k w)
     (e ∙ sym (length-repeated k w))
@@ -49,14 +58,14 @@ part-repeated n k w h =
     ∙ getD-repeated n w i (omega arith)
     ∙ sym (getD-repeated k w i q))
 
--- a run behind whole words
-pub repeated-add : (i n : ℕ) (w : List ℕ) → i % 4 ≡ 0 → repeated (i + n) w ≡ repeated i w ++ repeated n w
-unfolding repeated
-repeated-add i zero w h = rw (add-zero i, append-nil)
-repeated-add i (suc n) w h =
-    let e : i + suc n ≡ suc (i + n) = omega arith in
-    let m : (i + n) % 4 ≡ n % 4 = omega arith in
-    rw (e, m, repeated-add i n w h) (append-assoc (repeated i w) (repeated n w) (getD w (n % 4) 0 ∷ []))
+-- its bytes from a whole word on
+pub part-repeated : (n at k : ℕ) (w : List ℕ) → at % 4 ≡ 0 → at + k ≤ n → part (repeated n w) at k ≡ repeated k w
+part-repeated n at k w m h =
+    let e : n ≡ at + (n - at) = omega arith in
+    ap (λ (x : ℕ). part (repeated x w) at k) e
+    ∙ ap (λ (x : List ℕ). part x at k) (repeated-add at (n - at) w m)
+    ∙ part-right (repeated at w) (repeated (n - at) w) at 0 k (omega (arith, length-repeated at w))
+    ∙ front-repeated (n - at) k w (omega arith)
 
 -- four bytes once, and twice
 pub repeated-once : (w : List ℕ) → length w ≡ 4 → repeated 4 w ≡ w

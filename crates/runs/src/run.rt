@@ -9,6 +9,8 @@ ghost use Rattle.words.specs.Native.{lowBytes};
 ghost use Rattle.runs.specs.Run.{repeated, difference};
 use crate::eight;
 use words::native;
+use words::word;
+use words::word::Order;
 
 // Where two runs of bytes differ first, counted from their start.
 pub enum Difference {
@@ -27,6 +29,19 @@ pub fn fill(s: &mut [u8], at: usize, len: usize, w: u32)
     while i < len {
         native::store8(s, at + i, v);
         i += 8;
+    }
+}
+
+// The same for a run of whole words: if it is no multiple of 8 bytes, a word is left to be written behind the eights.
+pub fn fill_words(s: &mut [u8], at: usize, len: usize, w: u32)
+    requires { ⌜ at + len ≤ length (now s) ⌝ }
+    requires { ⌜ len % 4 ≡ 0 ⌝ }
+    ensures { λ _. ⌜ now (s .exit) ≡ sets (now (s .entry)) at (repeated len (lowBytes 4 w)) ⌝ }
+{
+    let eights = len - len % 8;
+    fill(s, at, eights, w);
+    if eights < len {
+        word::write_u32(Order::LowFirst, s, at + eights, w);
     }
 }
 

@@ -316,7 +316,7 @@ module _ (g : Sheet) where
   unfolding orderNumber
   order-read = rw (le-ltb (length (sheetBytes g)) sheetLength (omega (arith, length-sheet g))) (back 8 (omega arith) (order-small (g .format .order)))
 
-  pub sheet-read : Fits g → sheetOf (sheetBytes g) ≡ g
+  pub sheet-read : Fits g → sheetOf (g .format .profile) (sheetBytes g) ≡ g
   unfolding sheetOf
   sheet-read f =
       rw (
@@ -333,7 +333,7 @@ module _ (g : Sheet) where
       )
 
   -- and the image opens
-  pub sheet-opens : (h r : ℕ) → Fits g → lawful g ≡ true → h ≡ heapLength g → r ≡ recordsLength g → openedOf (sheetBytes g) h r ≡ opened.Sheet g
+  pub sheet-opens : (h r : ℕ) → Fits g → lawful g ≡ true → h ≡ heapLength g → r ≡ recordsLength g → openedOf (g .format .profile) (sheetBytes g) h r ≡ opened.Sheet g
   unfolding openedOf ordered numbered measured
   sheet-opens h r f l eh er =
       rw (

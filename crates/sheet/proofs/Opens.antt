@@ -2,16 +2,18 @@
 use mathlib.Core.Path.{_≡_, refl, sym, ap, _∙_, subst}
 use mathlib.Core.Bool.{Bool, true, false, and-eq-true-iff, cond}
 use mathlib.Core.List.{List}
-use Prim.Native.Nat.{ℕ, _≤_}
+use Prim.Native.Nat.{ℕ, _*_, _≤_}
 use native.Mathlib.Omega.{arith}
 use borrow.Author.Tests.{eqb-true}
 use lib.Dec.{eqb}
 use lib.ListN.{length}
+use Rattle.tags.specs.declared.format.Profile.{Profile}
 use Rattle.tags.specs.declared.refusal.Refusal.{Refusal}
 use Rattle.tags.specs.declared.refusal.Refusal.the-variants.{BadSheet, BadNumber, BadLength}
 use Rattle.sheet.specs.Opening.{Open, lengthsRight, areasOf, lengthsOf}
 use Rattle.sheet.specs.Fields.{shortLength, shaped, orderNumber, orderLawful, sheetOf}
-use Rattle.geometry.specs.Limits.{lawful}
+use Rattle.geometry.specs.Limits.{lawful, countMost}
+use Rattle.area.specs.Record.{recordSize}
 use Rattle.geometry.specs.Sheet.{heapLength, recordsLength}
 use Rattle.sheet.specs.Opening.{measured, numbered, ordered, openedOf, byOpened, openedWithLog}
 use Rattle.log.specs.Log.{logMost, logRight}
@@ -20,8 +22,13 @@ use Rattle.geometry.specs.declared.sheet.Sheet.{Sheet}
 use Rattle.sheet.specs.declared.opening.Lengths.the-variants as lengths
 use Rattle.sheet.specs.declared.opening.Opened.{Opened}
 use Rattle.sheet.specs.declared.opening.Opened.the-variants as opened
-use Rattle.geometry.proofs.Sheets.{lawful-known}
+use Rattle.geometry.proofs.Sheets.{lawful-known, records-most}
 use Rattle.sheet.proofs.Bytes.{shaped-long}
+
+-- the profile of a sheet that is read is the caller's
+pub profile-read : (p : Profile) (s : List ℕ) → sheetOf p s .format .profile ≡ p
+unfolding sheetOf
+profile-read p s = refl
 
 -- numbers that pass the tests 2 and 3
 pub numbered-known : (g : Sheet) (h r : ℕ) (o : Sheet) → numbered g h r ≡ opened.Sheet o → (o ≡ g) × Open h r o
@@ -39,51 +46,51 @@ numbered-known g h r o e = go (lawful g) (lengthsRight g h r) refl refl e
     go false b l m f = absurd (let z : _≡_ {A = ℕ} 0 1 = cc in omega arith)
 
 -- a sheet that opens: how long it is, its numbers, and that they are those of the areas
-pub record Opens (s : List ℕ) (h r : ℕ) (g : Sheet) : Type 0 where
+pub record Opens (p : Profile) (s : List ℕ) (h r : ℕ) (g : Sheet) : Type 0 where
   pub long : shortLength ≤ length s
-  pub same : g ≡ sheetOf s
+  pub same : g ≡ sheetOf p s
   pub opens : Open h r g
 
-pub opened-known : (s : List ℕ) (h r : ℕ) (g : Sheet) → openedOf s h r ≡ opened.Sheet g → Opens s h r g
+pub opened-known : (p : Profile) (s : List ℕ) (h r : ℕ) (g : Sheet) → openedOf p s h r ≡ opened.Sheet g → Opens p s h r g
 unfolding openedOf ordered
-opened-known s h r g e = go (shaped s) (orderLawful (orderNumber s)) refl e
+opened-known p s h r g e = go (shaped s) (orderLawful (orderNumber s)) refl e
   where
     go : (a b : Bool) → shaped s ≡ a
-        → cond a (cond b (numbered (sheetOf s) h r) (opened.Refused BadNumber)) (opened.Refused BadSheet) ≡ opened.Sheet g → Opens s h r g
-    go true true q f = let k = numbered-known (sheetOf s) h r g f in record { long = shaped-long s q; same = k .0; opens = k .1 }
+        → cond a (cond b (numbered (sheetOf p s) h r) (opened.Refused BadNumber)) (opened.Refused BadSheet) ≡ opened.Sheet g → Opens p s h r g
+    go true true q f = let k = numbered-known (sheetOf p s) h r g f in record { long = shaped-long s q; same = k .0; opens = k .1 }
     go true false q f = absurd (let z : _≡_ {A = ℕ} 0 1 = cc in omega arith)
     go false b q f = absurd (let z : _≡_ {A = ℕ} 0 1 = cc in omega arith)
 
 -- the same with a log
-pub logged-known : (s : List ℕ) (h r l : ℕ) (g : Sheet) → openedWithLog s h r l ≡ opened.Sheet g → Opens s h r g × (l ≤ logMost)
+pub logged-known : (p : Profile) (s : List ℕ) (h r l : ℕ) (g : Sheet) → openedWithLog p s h r l ≡ opened.Sheet g → Opens p s h r g × (l ≤ logMost)
 unfolding openedWithLog
-logged-known s h r l g e = go (openedOf s h r) (logRight l) refl refl e
+logged-known p s h r l g e = go (openedOf p s h r) (logRight l) refl refl e
   where
-    go : (o : Opened) (b : Bool) → openedOf s h r ≡ o → logRight l ≡ b → byOpened o (λ x. cond b (opened.Sheet x) (opened.Refused BadLength)) opened.Refused
+    go : (o : Opened) (b : Bool) → openedOf p s h r ≡ o → logRight l ≡ b → byOpened o (λ x. cond b (opened.Sheet x) (opened.Refused BadLength)) opened.Refused
         ≡ opened.Sheet g
-        → Opens s h r g × (l ≤ logMost)
+        → Opens p s h r g × (l ≤ logMost)
     go (opened.Sheet x) true q k f =
         let z : x ≡ g = cc in
-        (opened-known s h r g (q ∙ ap opened.Sheet z), log-most l k)
+        (opened-known p s h r g (q ∙ ap opened.Sheet z), log-most l k)
     go (opened.Sheet x) false q k f = absurd (let z : _≡_ {A = ℕ} 0 1 = cc in omega arith)
     go (opened.Refused why) b q k f = absurd (let z : _≡_ {A = ℕ} 0 1 = cc in omega arith)
 
 -- the lengths that a sheet asks for are small
-pub lengths-known : (s : List ℕ) (h r : ℕ) → lengthsOf s ≡ lengths.Areas h r → (h ≤ 65536) × (r ≤ 49152)
+pub lengths-known : (p : Profile) (s : List ℕ) (h r : ℕ) → lengthsOf p s ≡ lengths.Areas h r → (h ≤ 65536) × (r ≤ countMost * recordSize p)
 unfolding lengthsOf areasOf
-lengths-known s h r e = go (shaped s) (orderLawful (orderNumber s)) (lawful (sheetOf s)) refl e
+lengths-known p s h r e = go (shaped s) (orderLawful (orderNumber s)) (lawful (sheetOf p s)) refl e
   where
-    go : (a o b : Bool) → lawful (sheetOf s) ≡ b
+    go : (a o b : Bool) → lawful (sheetOf p s) ≡ b
         → cond a
-        (cond o (cond b (lengths.Areas (heapLength (sheetOf s)) (recordsLength (sheetOf s))) (lengths.Refused BadNumber)) (lengths.Refused BadNumber))
+        (cond o (cond b (lengths.Areas (heapLength (sheetOf p s)) (recordsLength (sheetOf p s))) (lengths.Refused BadNumber)) (lengths.Refused BadNumber))
         (lengths.Refused BadSheet)
         ≡ lengths.Areas h r
-        → (h ≤ 65536) × (r ≤ 49152)
+        → (h ≤ 65536) × (r ≤ countMost * recordSize p)
     go true true true q f =
-        let l = lawful-known (sheetOf s) q in
-        let x : heapLength (sheetOf s) ≡ h = cc in
-        let y : recordsLength (sheetOf s) ≡ r = cc in
-        (omega (arith, l .sizes .area), omega (arith, l .sizes .few))
+        let l = lawful-known (sheetOf p s) q in
+        let x : heapLength (sheetOf p s) ≡ h = cc in
+        let y : recordsLength (sheetOf p s) ≡ r = cc in
+        (omega (arith, l .sizes .area), omega (arith, records-most (sheetOf p s) (l .sizes), ap recordSize (profile-read p s)))
     go true true false q f = absurd (let z : _≡_ {A = ℕ} 0 1 = cc in omega arith)
     go true false b q f = absurd (let z : _≡_ {A = ℕ} 0 1 = cc in omega arith)
     go false o b q f = absurd (let z : _≡_ {A = ℕ} 0 1 = cc in omega arith)

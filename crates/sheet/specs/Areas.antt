@@ -6,6 +6,7 @@ use denote.Ref.{RefT, now}
 use denote.Triple.Both.{Both}
 pub use Rattle.area.specs.Place.{PartAt}
 use Rattle.words.specs.Word.{part}
+use Rattle.tags.specs.declared.format.Profile.{Profile}
 use Rattle.tags.specs.declared.refusal.Refusal.{Refusal}
 use Rattle.geometry.specs.Sheet.{chunkPlace}
 use Rattle.sheet.specs.Opening.{openedOf, openedWithLog, byOpened}
@@ -78,12 +79,12 @@ imageOf a g = image g (a .heap) (a .records)
 abbrev pub imageIn : Sheet → RefT (List ℕ) → RefT (List ℕ) → Image
 imageIn g heap records = image g (now heap) (now records)
 
--- E3 (X1, X2, X3): whether the areas of a call are an image, and with a log of l bytes
-abbrev pub opening : Areas → Opened
-opening a = openedOf (a .sheet) (length (a .heap)) (length (a .records))
+-- E3 (X1, X2, X3): whether the areas of a call are an image of a profile, and with a log of l bytes
+abbrev pub opening : Profile → Areas → Opened
+opening p a = openedOf p (a .sheet) (length (a .heap)) (length (a .records))
 
-abbrev pub openingWithLog : Areas → ℕ → Opened
-openingWithLog a l = openedWithLog (a .sheet) (length (a .heap)) (length (a .records)) l
+abbrev pub openingWithLog : Profile → Areas → ℕ → Opened
+openingWithLog p a l = openedWithLog p (a .sheet) (length (a .heap)) (length (a .records)) l
 
 -- by whether the areas are an image, as one of the two tells
 abbrev pub byImage : {A : Type 0} → Opened → Areas → (Image → A) → (Refusal → A) → A

@@ -9,6 +9,7 @@ use Rattle.words.specs.Word.{numberAt, bytesOf}
 use Rattle.words.specs.declared.word.Order.{Order}
 use Rattle.words.specs.declared.word.Order.the-variants.{HighFirst, LowFirst}
 use Rattle.tags.specs.Format.{formatOf}
+use Rattle.tags.specs.declared.format.Profile.{Profile}
 use Rattle.geometry.specs.declared.sheet.Sheet.{Sheet}
 
 -- ---- the numbers and the bytes of a field
@@ -108,10 +109,10 @@ abbrev pub numberOf : Order → ℕ
 numberOf HighFirst = 0
 numberOf LowFirst = 1
 
--- S2, S10 (the bodies)
-unfoldable pub sheetOf : List ℕ → Sheet
-sheetOf s = record {
-  format = formatOf (orderOf (orderNumber s));
+-- S2, S10 (the bodies), U1 (the profile is the caller's)
+unfoldable pub sheetOf : Profile → List ℕ → Sheet
+sheetOf p s = record {
+  format = formatOf p (orderOf (orderNumber s));
   cache = fieldNumber 4 s (bodyAt 0);
   «heap_base» = fieldNumber 4 s (bodyAt 1);
   «record_base» = fieldNumber 4 s (bodyAt 2);

@@ -5,6 +5,7 @@ use mathlib.Core.List.{List}
 use Prim.Native.Nat.{ℕ}
 use lib.Dec.{eqb}
 use Rattle.log.specs.Log.{logRight}
+use Rattle.tags.specs.declared.format.Profile.{Profile}
 use Rattle.tags.specs.declared.refusal.Refusal.{Refusal}
 use Rattle.tags.specs.declared.refusal.Refusal.the-variants.{BadSheet, BadNumber, BadLength}
 use Rattle.geometry.specs.Sheet.{heapLength, recordsLength}
@@ -30,11 +31,11 @@ unfoldable pub numbered : Sheet → ℕ → ℕ → Opened
 numbered g h r = cond (lawful g) (measured g h r) (opened.Refused BadNumber)
 
 -- X2 (S10: a number without an order)
-unfoldable pub ordered : List ℕ → ℕ → ℕ → Opened
-ordered s h r = cond (orderLawful (orderNumber s)) (numbered (sheetOf s) h r) (opened.Refused BadNumber)
+unfoldable pub ordered : Profile → List ℕ → ℕ → ℕ → Opened
+ordered p s h r = cond (orderLawful (orderNumber s)) (numbered (sheetOf p s) h r) (opened.Refused BadNumber)
 
-unfoldable pub openedOf : List ℕ → ℕ → ℕ → Opened
-openedOf s h r = cond (shaped s) (ordered s h r) (opened.Refused BadSheet)
+unfoldable pub openedOf : Profile → List ℕ → ℕ → ℕ → Opened
+openedOf p s h r = cond (shaped s) (ordered p s h r) (opened.Refused BadSheet)
 
 -- by whether an image is open
 abbrev pub byOpened {ℓ} : {A : Type ℓ} → Opened → (Sheet → A) → (Refusal → A) → A
@@ -42,8 +43,8 @@ byOpened (opened.Sheet g) f shut = f g
 byOpened (opened.Refused why) f shut = shut why
 
 -- E3 (X3 tests the log where one is given)
-unfoldable pub openedWithLog : List ℕ → ℕ → ℕ → ℕ → Opened
-openedWithLog s h r l = byOpened (openedOf s h r) (λ g. cond (logRight l) (opened.Sheet g) (opened.Refused BadLength)) opened.Refused
+unfoldable pub openedWithLog : Profile → List ℕ → ℕ → ℕ → ℕ → Opened
+openedWithLog p s h r l = byOpened (openedOf p s h r) (λ g. cond (logRight l) (opened.Sheet g) (opened.Refused BadLength)) opened.Refused
 
 -- what is known of an open image: its sheet is lawful, and its areas are as long as the sheet says
 pub record Open (h r : ℕ) (g : Sheet) : Type 0 where
@@ -57,5 +58,5 @@ unfoldable pub areasOf : Sheet → Lengths
 areasOf g = cond (lawful g) (lengths.Areas (heapLength g) (recordsLength g)) (lengths.Refused BadNumber)
 
 -- K13 (area lengths): X1 and X2, and then the lengths that X3 asks for
-unfoldable pub lengthsOf : List ℕ → Lengths
-lengthsOf s = cond (shaped s) (cond (orderLawful (orderNumber s)) (areasOf (sheetOf s)) (lengths.Refused BadNumber)) (lengths.Refused BadSheet)
+unfoldable pub lengthsOf : Profile → List ℕ → Lengths
+lengthsOf p s = cond (shaped s) (cond (orderLawful (orderNumber s)) (areasOf (sheetOf p s)) (lengths.Refused BadNumber)) (lengths.Refused BadSheet)

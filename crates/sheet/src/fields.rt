@@ -10,6 +10,7 @@ ghost use Rattle.sheet.specs.Fields.{fieldNumber, fieldIs, fieldsFrom, s
 ghost use Rattle.geometry.specs.Limits.{Lawful};
 use geometry::sheet::Sheet;
 use tags::format::Format;
+use tags::format::Profile;
 use words::native;
 use words::word;
 use words::word::Order;
@@ -138,14 +139,14 @@ fn number_of(o: Order) -> u8
     }
 }
 
-// The numbers in the fields' bodies.
-pub(crate) fn read(s: &[u8]) -> Sheet
+// The numbers in the fields' bodies, and the profile, which a sheet does not have.
+pub(crate) fn read(profile: Profile, s: &[u8]) -> Sheet
     requires { ⌜ shortLength ≤ length (now s) ⌝ }
-    ensures { λ r. ⌜ r ≡ sheetOf (now (s .entry)) ⌝ }
+    ensures { λ r. ⌜ r ≡ sheetOf profile (now (s .entry)) ⌝ }
 {
     let order = order_of(order_number(s));
     Sheet {
-        format: Format { order },
+        format: Format { profile, order },
         cache: long_body(s, CACHE),
         heap_base: long_body(s, HEAP_BASE),
         record_base: long_body(s, RECORD_BASE),

@@ -7,6 +7,7 @@ ghost use Rattle.sheet.specs.Fields.{shortLength};
 ghost use Rattle.sheet.specs.Opening.{measured, numbered, ordered, openedOf, openedWithLog, areasOf, lengthsOf};
 use crate::fields;
 use geometry::sheet::Sheet;
+use tags::format::Profile;
 use tags::refusal::Refusal;
 
 // An image that passed the tests 1 to 3, or why it did not.
@@ -46,31 +47,37 @@ pub fn judge_numbers(g: Sheet, heap_len: usize, records_len: usize) -> Opened
 }
 
 // The step before that: the number of the order, of a sheet of either form.
-fn judge_order(sheet: &[u8], heap_len: usize, records_len: usize) -> Opened
+fn judge_order(profile: Profile, sheet: &[u8], heap_len: usize, records_len: usize) -> Opened
     requires { ⌜ shortLength ≤ length (now sheet) ⌝ }
-    ensures { λ r. ⌜ r ≡ ordered (now (sheet .entry)) «heap_len» «records_len» ⌝ }
+    ensures { λ r. ⌜ r ≡ ordered profile (now (sheet .entry)) «heap_len» «records_len» ⌝ }
 {
     if fields::order_number(sheet) <= 1 {
-        return judge_numbers(fields::read(sheet), heap_len, records_len);
+        return judge_numbers(fields::read(profile, sheet), heap_len, records_len);
     }
     Opened::Refused(Refusal::BadNumber)
 }
 
 // Opens an image whose areas have these lengths.
-pub fn open(sheet: &[u8], heap_len: usize, records_len: usize) -> Opened
-    ensures { λ r. ⌜ r ≡ openedOf (now (sheet .entry)) «heap_len» «records_len» ⌝ }
+pub fn open(profile: Profile, sheet: &[u8], heap_len: usize, records_len: usize) -> Opened
+    ensures { λ r. ⌜ r ≡ openedOf profile (now (sheet .entry)) «heap_len» «records_len» ⌝ }
 {
     if fields::is_shaped(sheet) {
-        return judge_order(sheet, heap_len, records_len);
+        return judge_order(profile, sheet, heap_len, records_len);
     }
     Opened::Refused(Refusal::BadSheet)
 }
 
 // The same where a log is given too.
-pub fn open_with_log(sheet: &[u8], heap_len: usize, records_len: usize, log_len: usize) -> Opened
-    ensures { λ r. ⌜ r ≡ openedWithLog (now (sheet .entry)) «heap_len» «records_len» «log_len» ⌝ }
+pub fn open_with_log(
+    profile: Profile,
+    sheet: &[u8],
+    heap_len: usize,
+    records_len: usize,
+    log_len: usize,
+) -> Opened
+    ensures { λ r. ⌜ r ≡ openedWithLog profile (now (sheet .entry)) «heap_len» «records_len» «log_len» ⌝ }
 {
-    let opened = open(sheet, heap_len, records_len);
+    let opened = open(profile, sheet, heap_len, records_len);
     match opened {
         Opened::Refused(why) => Opened::Refused(why),
         Opened::Sheet(g) => {
@@ -93,12 +100,12 @@ fn measure_areas(g: Sheet) -> Lengths
 }
 
 // How long the areas of an image are, for a caller that has only its sheet yet.
-pub fn area_lengths(sheet: &[u8]) -> Lengths
-    ensures { λ r. ⌜ r ≡ lengthsOf (now (sheet .entry)) ⌝ }
+pub fn area_lengths(profile: Profile, sheet: &[u8]) -> Lengths
+    ensures { λ r. ⌜ r ≡ lengthsOf profile (now (sheet .entry)) ⌝ }
 {
     if fields::is_shaped(sheet) {
         if fields::order_number(sheet) <= 1 {
-            return measure_areas(fields::read(sheet));
+            return measure_areas(fields::read(profile, sheet));
         }
         return Lengths::Refused(Refusal::BadNumber);
     }

@@ -6,6 +6,7 @@ use lib.Dec.{leb}
 use lib.ListN.{length}
 use lib.Seq.{sets}
 use Rattle.tags.specs.Ending.{endingNumber, endingValue}
+use Rattle.tags.specs.declared.format.Profile.{Profile}
 use Rattle.tags.specs.declared.ending.Ending.{Ending}
 use Rattle.tags.specs.declared.refusal.Refusal.{Refusal}
 use Rattle.tags.specs.declared.refusal.Refusal.the-variants.{ShortOutput}
@@ -37,9 +38,9 @@ abbrev pub unnumbered : List ℕ → List ℕ → Refusal → Numbered Answer
 unnumbered rows chain why = numbering (Refused why) rows chain
 
 -- E8 (X11, after E3 with the log), F5: the need is three numbers for each buffer, and three for the chain
-unfoldable pub surveyNumbersOf : Areas → ℕ → List ℕ → List ℕ → Numbered Answer
-surveyNumbersOf a l rows chain =
-    byImage (openingWithLog a l) a
+unfoldable pub surveyNumbersOf : Profile → Areas → ℕ → List ℕ → List ℕ → Numbered Answer
+surveyNumbersOf p a l rows chain =
+    byImage (openingWithLog p a l) a
     (λ m. cond (leb (m .sheet .count * 3) (length rows) && leb 3 (length chain))
     (numbering (Value (m .sheet .count)) (sets rows 0 (tableOf m)) (sets chain 0 (numbersOf (chainOf m))))
     (unnumbered rows chain ShortOutput))

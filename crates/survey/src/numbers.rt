@@ -11,6 +11,7 @@ use sheet::opening;
 use sheet::opening::Opened;
 use tags::ending;
 use tags::ending::Ending;
+use tags::format::Profile;
 use tags::refusal::Answer;
 use tags::refusal::Refusal;
 
@@ -41,6 +42,7 @@ fn put_chain(chain: &mut [u32], met: usize, e: Ending)
 // Fills a lent row with three numbers for each buffer and another with the three of the chain, of an image with a log; or
 // refuses and leaves both as they were.
 pub fn survey_numbers(
+    profile: Profile,
     sheet: &[u8],
     heap: &[u8],
     records: &[u8],
@@ -49,10 +51,10 @@ pub fn survey_numbers(
     chain: &mut [u32],
 ) -> Answer
     ensures { λ r. ⌜ numbering r (now (rows .exit)) (now (chain .exit))
-        ≡ surveyNumbersOf (before sheet heap records) (length (now (log .entry)))
+        ≡ surveyNumbersOf profile (before sheet heap records) (length (now (log .entry)))
         (now (rows .entry)) (now (chain .entry)) ⌝ }
 {
-    let opened = opening::open_with_log(sheet, heap.len(), records.len(), log.len());
+    let opened = opening::open_with_log(profile, sheet, heap.len(), records.len(), log.len());
     match opened {
         Opened::Refused(why) => Answer::Refused(why),
         Opened::Sheet(g) => {

@@ -14,6 +14,7 @@ use geometry::limits;
 use geometry::sheet::Sheet;
 use sheet::opening;
 use sheet::opening::Opened;
+use tags::format::Profile;
 use tags::refusal::Answer;
 use tags::refusal::Refusal;
 use verdicts::judge;
@@ -49,11 +50,17 @@ pub(crate) fn fill_table(heap: &[u8], records: &[u8], g: Sheet, rows: &mut [u32]
 }
 
 // Fills a lent row of numbers, three for each buffer, or refuses and leaves it as it was.
-pub fn tabulate(sheet: &[u8], heap: &[u8], records: &[u8], rows: &mut [u32]) -> Answer
+pub fn tabulate(
+    profile: Profile,
+    sheet: &[u8],
+    heap: &[u8],
+    records: &[u8],
+    rows: &mut [u32],
+) -> Answer
     ensures { λ r. ⌜ filling r (now (rows .exit))
-        ≡ tabulateOf (before sheet heap records) (now (rows .entry)) ⌝ }
+        ≡ tabulateOf profile (before sheet heap records) (now (rows .entry)) ⌝ }
 {
-    let opened = opening::open(sheet, heap.len(), records.len());
+    let opened = opening::open(profile, sheet, heap.len(), records.len());
     match opened {
         Opened::Refused(why) => Answer::Refused(why),
         Opened::Sheet(g) => {

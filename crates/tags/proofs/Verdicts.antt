@@ -3,7 +3,7 @@ use mathlib.Core.Path.{_≡_, refl}
 use Rattle.tags.specs.Verdict.{toldOf, ofTold}
 use Rattle.tags.specs.declared.verdict.Verdict.{Verdict}
 use Rattle.tags.specs.declared.verdict.Verdict.the-variants.{Free, Whole, Allocated, NotOneRecord, BadTag, FreedTwice}
-use Rattle.tags.specs.declared.verdict.Verdict.the-variants.{OffChain, OnChain, BadFill, BadRedzone, BadSizeCode, Overrun}
+use Rattle.tags.specs.declared.verdict.Verdict.the-variants.{OffChain, OnChain, BadFill, BadRedzone, BadSizeCode, Overrun, BadHeader}
 
 -- the numbers of a verdict tell it
 pub told-back : (v : Verdict) → ofTold (toldOf v) ≡ v
@@ -20,3 +20,4 @@ told-back (BadFill o) = refl
 told-back (BadRedzone o) = refl
 told-back BadSizeCode = refl
 told-back (Overrun o) = refl
+told-back BadHeader = refl

@@ -4,9 +4,9 @@ use Prim.Native.Nat.{ℕ}
 use lib.Dec.{eqb, leb}
 use Rattle.tags.specs.declared.verdict.Told.{Told}
 use Rattle.tags.specs.declared.verdict.Verdict.{Verdict}
-use Rattle.tags.specs.declared.verdict.Verdict.the-variants.{Free, Whole, Allocated, NotOneRecord, BadTag, FreedTwice, OffChain, OnChain, BadFill, BadRedzone, BadSizeCode, Overrun}
+use Rattle.tags.specs.declared.verdict.Verdict.the-variants.{Free, Whole, Allocated, NotOneRecord, BadTag, FreedTwice, OffChain, OnChain, BadFill, BadRedzone, BadSizeCode, Overrun, BadHeader}
 
--- V0 free, V1 whole, V2 allocated s, and the faults V20 to V28: the rule's number is the verdict's
+-- V0 free, V1 whole, V2 allocated s, and the faults V20 to V28 and V30: the rule's number is the verdict's
 abbrev pub verdictNumber : Verdict → ℕ
 verdictNumber Free = 0
 verdictNumber Whole = 1
@@ -20,6 +20,7 @@ verdictNumber (BadFill o) = 25
 verdictNumber (BadRedzone o) = 26
 verdictNumber BadSizeCode = 27
 verdictNumber (Overrun o) = 28
+verdictNumber BadHeader = 30
 
 -- J8 (the value): the size of 2, the offset of 25, 26 and 28; any other verdict has none, which is told as 0
 abbrev pub verdictValue : Verdict → ℕ
@@ -35,12 +36,13 @@ verdictValue (BadFill o) = o
 verdictValue (BadRedzone o) = o
 verdictValue BadSizeCode = 0
 verdictValue (Overrun o) = o
+verdictValue BadHeader = 0
 
 -- J8 (a verdict as numbers): its number and its value
 abbrev pub toldOf : Verdict → Told
 toldOf v = record { number = verdictNumber v; value = verdictValue v }
 
--- J8 read back (the verdict that a number and a value tell): that of the number, with the value where it has one; any other number is read as 28
+-- J8 read back (the verdict that a number and a value tell): that of the number, with the value where it has one; any other number is read as 30
 unfoldable pub ofTold : Told → Verdict
 ofTold t =
     cond (eqb (t .number) 0) Free
@@ -53,7 +55,8 @@ ofTold t =
     (cond (eqb (t .number) 24) OnChain
     (cond (eqb (t .number) 25) (BadFill (t .value))
     (cond (eqb (t .number) 26) (BadRedzone (t .value))
-    (cond (eqb (t .number) 27) BadSizeCode (Overrun (t .value))))))))))))
+    (cond (eqb (t .number) 27) BadSizeCode
+    (cond (eqb (t .number) 28) (Overrun (t .value)) BadHeader)))))))))))
 
 -- ---- what a verdict says, by its number
 

@@ -17,6 +17,7 @@ pub enum Verdict {
     BadRedzone(u32),
     BadSizeCode,
     Overrun(u32),
+    BadHeader,
 }
 
 // A verdict as numbers: its own, and its size or offset, 0 where it carries none.
@@ -42,6 +43,7 @@ pub fn number(v: Verdict) -> u32
         Verdict::BadRedzone(_) => 26,
         Verdict::BadSizeCode => 27,
         Verdict::Overrun(_) => 28,
+        Verdict::BadHeader => 30,
     }
 }
 
@@ -62,6 +64,7 @@ pub fn value(v: Verdict) -> u32
         Verdict::OffChain => 0,
         Verdict::OnChain => 0,
         Verdict::BadSizeCode => 0,
+        Verdict::BadHeader => 0,
     }
 }
 
@@ -92,6 +95,7 @@ pub fn of(t: Told) -> Verdict
         25 => Verdict::BadFill(t.value),
         26 => Verdict::BadRedzone(t.value),
         27 => Verdict::BadSizeCode,
-        _ => Verdict::Overrun(t.value),
+        28 => Verdict::Overrun(t.value),
+        _ => Verdict::BadHeader,
     }
 }

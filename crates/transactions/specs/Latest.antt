@@ -8,6 +8,7 @@ use lib.Dec.{eqb, leb, ltb}
 use lib.ListN.{length}
 use Rattle.words.specs.Word.{part}
 use Rattle.words.specs.Age.{ageOf}
+use Rattle.tags.specs.declared.format.Profile.{Profile}
 use Rattle.tags.specs.declared.format.Format.{Format}
 use Rattle.tags.specs.declared.verdict.Verdict.the-variants.{NotOneRecord}
 use Rattle.area.specs.Record.{recordSize, stampNumber, highHalf, lowHalf}
@@ -71,21 +72,21 @@ indexedLatest g records log index time =
     cond (ltb index (g .count)) (byOwn (ownIn g records index) (ownedLatest g records log time) (Refused (Damage NotOneRecord))) (Refused NoSuchBuffer)
 
 -- E7 (the order of latest), after E3
-unfoldable pub latestOf : Areas → List ℕ → ℕ → ℕ → Transaction
-latestOf a log index time =
-    byImage (openingWithLog a (length log)) a (λ m. indexedLatest (m .sheet) (m .records) log index time) Refused
+unfoldable pub latestOf : Profile → Areas → List ℕ → ℕ → ℕ → Transaction
+latestOf p a log index time =
+    byImage (openingWithLog p a (length log)) a (λ m. indexedLatest (m .sheet) (m .records) log index time) Refused
 
 -- L4 (the part handed back), E1 (of a refusal, none)
-abbrev pub latestPart : List ℕ → List ℕ → Transaction → List ℕ
-latestPart records log (Row k) = part log (k * rowSize) rowSize
-latestPart records log (Record j) = part records (j * recordSize) recordSize
-latestPart records log (Refused why) = []
+abbrev pub latestPart : Profile → List ℕ → List ℕ → Transaction → List ℕ
+latestPart p records log (Row k) = part log (k * rowSize) rowSize
+latestPart p records log (Record j) = part records (j * recordSize p) (recordSize p)
+latestPart p records log (Refused why) = []
 
 -- and where it stands, so that it is that row or record and no other with the same bytes; where a refusal's empty part stands is left free
-abbrev pub LatestPlace : RefT (List ℕ) → RefT (List ℕ) → Transaction → RefT (List ℕ) → Type 0
-LatestPlace records log (Row k) p = PartAt log (k * rowSize) p
-LatestPlace records log (Record j) p = PartAt records (j * recordSize) p
-LatestPlace records log (Refused why) p = Unit {0}
+abbrev pub LatestPlace : Profile → RefT (List ℕ) → RefT (List ℕ) → Transaction → RefT (List ℕ) → Type 0
+LatestPlace p records log (Row k) r = PartAt log (k * rowSize) r
+LatestPlace p records log (Record j) r = PartAt records (j * recordSize p) r
+LatestPlace p records log (Refused why) r = Unit {0}
 
 -- ---- the rule in plain words, which the definitions above meet
 

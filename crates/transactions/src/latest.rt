@@ -17,6 +17,7 @@ use places::records;
 use sheet::opening;
 use sheet::opening::Opened;
 use tags::format::Format;
+use tags::format::Profile;
 use tags::refusal::Refusal;
 use tags::verdict::Verdict;
 use words::age;
@@ -126,6 +127,7 @@ fn latest_of(records: &[u8], log: &[u8], g: Sheet, index: u32, time: u32) -> Tra
 
 // Where the latest transaction of the buffer with an index stands.
 pub fn find_latest(
+    profile: Profile,
     sheet: &[u8],
     heap: &[u8],
     records: &[u8],
@@ -133,9 +135,9 @@ pub fn find_latest(
     index: u32,
     time: u32,
 ) -> Transaction
-    ensures { λ r. ⌜ r ≡ latestOf (before sheet heap records) (now (log .entry)) index time ⌝ }
+    ensures { λ r. ⌜ r ≡ latestOf profile (before sheet heap records) (now (log .entry)) index time ⌝ }
 {
-    let opened = opening::open_with_log(sheet, heap.len(), records.len(), log.len());
+    let opened = opening::open_with_log(profile, sheet, heap.len(), records.len(), log.len());
     match opened {
         Opened::Refused(why) => Transaction::Refused(why),
         Opened::Sheet(g) => latest_of(records, log, g, index, time),
@@ -144,6 +146,7 @@ pub fn find_latest(
 
 // The latest transaction itself, as a part of the log or of the record area; empty where it is refused.
 pub fn latest<'a>(
+    profile: Profile,
     sheet: &[u8],
     heap: &[u8],
     records: &'a [u8],
@@ -152,15 +155,15 @@ pub fn latest<'a>(
     time: u32,
 ) -> &'a [u8]
     ensures bytes { λ r. ⌜ now r
-        ≡ latestPart (now (records .entry)) (now (log .entry))
-        (latestOf (before sheet heap records) (now (log .entry)) index time) ⌝ }
-    ensures place { λ r. ⌜ LatestPlace (records .entry) (log .entry)
-        (latestOf (before sheet heap records) (now (log .entry)) index time) r ⌝ }
+        ≡ latestPart profile (now (records .entry)) (now (log .entry))
+        (latestOf profile (before sheet heap records) (now (log .entry)) index time) ⌝ }
+    ensures place { λ r. ⌜ LatestPlace profile (records .entry) (log .entry)
+        (latestOf profile (before sheet heap records) (now (log .entry)) index time) r ⌝ }
 {
-    let found = find_latest(sheet, heap, records, log, index, time);
+    let found = find_latest(profile, sheet, heap, records, log, index, time);
     match found {
         Transaction::Refused(_) => &log[0..0],
         Transaction::Row(k) => log::row(log, k),
-        Transaction::Record(j) => record::whole(records, j),
+        Transaction::Record(j) => record::whole(profile, records, j),
     }
 }

@@ -55,7 +55,8 @@ fn judge_chained(f: Format, chunk: &[u8], tag: Tag, s: Standing) -> Told
         if s.met {
             return verdict::tell(Verdict::OnChain);
         }
-        return judge::judge_allocated(f, chunk);
+        let t = judge::judge_coded(f, chunk);
+        return judge::judge_header(f, chunk, t);
     }
     verdict::tell(Verdict::BadTag)
 }

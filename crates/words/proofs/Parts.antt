@@ -133,21 +133,45 @@ sets-mid xs ys zs vs at ex ey =
     ∙ ap (λ (r : List ℕ). xs ++ vs ++ r) (drop-at (xs ++ ys) zs (at + length vs) e)
     ∙ append-assoc xs vs zs
 
--- a run written over a run
-pub sets-over : (l vs ws : List ℕ) (o : ℕ) → o + length ws ≤ length vs → length vs ≤ length l → sets (sets l 0 vs) o ws ≡ sets l 0 (sets vs o ws)
-sets-over l vs ws o h k =
+-- a run written behind the first `at` elements
+sets-behind : (l vs : List ℕ) (at o : ℕ) → at ≤ length l → sets l (at + o) vs ≡ take at l ++ sets (drop at l) o vs
+sets-behind l vs at o h =
+    ap (λ (x : List ℕ). sets x (at + o) vs) (sym (take-append-drop at l))
+    ∙ sets-right (take at l) (drop at l) vs (at + o) o (ap (λ (n : ℕ). n + o) (length-take-le at l h))
+
+-- a run written over a run, which stands at the front, or at an offset
+over-front : (l vs ws : List ℕ) (o : ℕ) → o + length ws ≤ length vs → length vs ≤ length l → sets (sets l 0 vs) o ws ≡ sets l 0 (sets vs o ws)
+over-front l vs ws o h k =
     ap (λ (x : List ℕ). sets x o ws) (sets-front l vs k)
     ∙ sets-left ws vs (drop (length vs) l) o h
     ∙ ap (λ (n : ℕ). sets vs o ws ++ drop n l) (sym (length-sets vs o ws))
     ∙ sym (sets-front l (sets vs o ws) (omega (arith, length-sets vs o ws)))
 
+pub sets-over : (l vs ws : List ℕ) (at o : ℕ) → o + length ws ≤ length vs → at + length vs ≤ length l
+    → sets (sets l at vs) (at + o) ws ≡ sets l at (sets vs o ws)
+sets-over l vs ws at o h k =
+    ap (λ (x : List ℕ). sets x (at + o) ws) (behind vs)
+    ∙ sets-right (take at l) (sets (drop at l) 0 vs) ws (at + o) o (ap (λ (n : ℕ). n + o) (length-take-le at l (omega arith)))
+    ∙ ap (λ (r : List ℕ). take at l ++ r) (over-front (drop at l) vs ws o h (omega (arith, length-drop at l)))
+    ∙ sym (behind (sets vs o ws))
+  where
+    behind : (us : List ℕ) → sets l at us ≡ take at l ++ sets (drop at l) 0 us
+    behind us = ap (λ (n : ℕ). sets l n us) (sym (add-zero at)) ∙ sets-behind l us at 0 (omega arith)
+
 -- a run written where it stands
-pub sets-same : (l : List ℕ) (k : ℕ) → k ≤ length l → sets l 0 (part l 0 k) ≡ l
-unfolding part
-sets-same l k h =
+same-front : (l : List ℕ) (k : ℕ) → k ≤ length l → sets l 0 (take k l) ≡ l
+same-front l k h =
     sets-front l (take k l) (omega (arith, length-take-le k l h))
     ∙ ap (λ (n : ℕ). take k l ++ drop n l) (length-take-le k l h)
     ∙ take-append-drop k l
+
+pub sets-same : (l : List ℕ) (at k : ℕ) → at + k ≤ length l → sets l at (part l at k) ≡ l
+unfolding part
+sets-same l at k h =
+    ap (λ (n : ℕ). sets l n (take k (drop at l))) (sym (add-zero at))
+    ∙ sets-behind l (take k (drop at l)) at 0 (omega arith)
+    ∙ ap (λ (r : List ℕ). take at l ++ r) (same-front (drop at l) k (omega (arith, length-drop at l)))
+    ∙ take-append-drop at l
 
 -- a part that was lent comes back as `vs`
 pub part-back : (l vs : List ℕ) (at n : ℕ) → length vs ≡ n → at + n ≤ length l → take at l ++ (vs ++ drop n (drop at l)) ≡ sets l at vs

@@ -58,7 +58,7 @@ fn check_pair(size: usize, grant: u32) {
 }
 
 pub fn pair_by_library(image: &mut Image, grant: u32) {
-    use combgallop::{allocate, free, Grant};
+    use combgallop::{allocate, free, Grant, Profile};
     let Image {
         sheet,
         heap,
@@ -66,12 +66,17 @@ pub fn pair_by_library(image: &mut Image, grant: u32) {
         ..
     } = image;
     let grant = black_box(Grant::Sized(grant));
-    let address = allocate(sheet, heap, records, grant, UPTIME, THREAD).expect("a free buffer");
-    free(sheet, heap, records, address, grant, UPTIME, THREAD).expect("a granted buffer");
+    let answer = allocate(Profile::Kernel, sheet, heap, records, grant, UPTIME, THREAD);
+    let address = answer.expect("a free buffer");
+    let profile = Profile::Kernel;
+    let answer = free(
+        profile, sheet, heap, records, address, grant, UPTIME, THREAD,
+    );
+    answer.expect("a granted buffer");
 }
 
 fn pair_by_second(image: &mut Image, grant: u32) {
-    use reference::{allocate, free, Grant};
+    use reference::{allocate, free, Grant, Profile};
     let Image {
         sheet,
         heap,
@@ -79,8 +84,13 @@ fn pair_by_second(image: &mut Image, grant: u32) {
         ..
     } = image;
     let grant = black_box(Grant::Sized(grant));
-    let address = allocate(sheet, heap, records, grant, UPTIME, THREAD).expect("a free buffer");
-    free(sheet, heap, records, address, grant, UPTIME, THREAD).expect("a granted buffer");
+    let answer = allocate(Profile::Kernel, sheet, heap, records, grant, UPTIME, THREAD);
+    let address = answer.expect("a free buffer");
+    let profile = Profile::Kernel;
+    let answer = free(
+        profile, sheet, heap, records, address, grant, UPTIME, THREAD,
+    );
+    answer.expect("a granted buffer");
 }
 
 fn time_lay_out(shape: Shape) {
@@ -99,6 +109,7 @@ fn time_lay_out(shape: Shape) {
 fn lay_out_by_library(image: &mut Image) {
     let shape = image.shape;
     combgallop::lay_out(
+        combgallop::Profile::Kernel,
         combgallop::Order::HighFirst,
         shape.cache,
         shape.heap_base,
@@ -115,6 +126,7 @@ fn lay_out_by_library(image: &mut Image) {
 fn lay_out_by_second(image: &mut Image) {
     let shape = image.shape;
     reference::lay_out(
+        reference::Profile::Kernel,
         reference::Order::HighFirst,
         shape.cache,
         shape.heap_base,
@@ -138,29 +150,39 @@ fn time_store_and_show(size: usize, count: usize) {
         records,
         ..
     } = &mut image;
-    let address = combgallop::allocate(sheet, heap, records, whole, UPTIME, THREAD);
+    let kernel = combgallop::Profile::Kernel;
+    let second_kernel = reference::Profile::Kernel;
+    let address = combgallop::allocate(kernel, sheet, heap, records, whole, UPTIME, THREAD);
     let address = address.expect("a free buffer");
     let bytes: Vec<u8> = (0..size).map(|i| i as u8).collect();
     let mut second_heap = heap.clone();
-    combgallop::store(sheet, heap, records, address, 0, &bytes).expect("the client's bytes");
+    let answer = combgallop::store(kernel, sheet, heap, records, address, 0, &bytes);
+    answer.expect("the client's bytes");
     assert_eq!(&heap[..size], bytes, "store of {size}");
 
     let [rattle, second] = race([
         Box::new(|| {
-            let answer = combgallop::store(sheet, heap, records, address, 0, black_box(&bytes));
+            let bytes = black_box(&bytes);
+            let answer = combgallop::store(kernel, sheet, heap, records, address, 0, bytes);
             answer.expect("the client's bytes");
         }),
         Box::new(|| {
-            let heap = &mut second_heap;
-            let answer = reference::store(sheet, heap, records, address, 0, black_box(&bytes));
+            let (heap, bytes) = (&mut second_heap, black_box(&bytes));
+            let answer = reference::store(second_kernel, sheet, heap, records, address, 0, bytes);
             answer.expect("the client's bytes");
         }),
     ]);
     let case = format!("store of {size} bytes, {size} x {count}");
     print_sides(&case, &rattle, &second);
 
-    let by_library = || combgallop::show(sheet, heap, records, address).expect("the client's");
-    let by_second = || reference::show(sheet, heap, records, address).expect("the client's");
+    let by_library = || {
+        let part = combgallop::show(kernel, sheet, heap, records, address);
+        part.expect("the client's bytes")
+    };
+    let by_second = || {
+        let shown = reference::show(second_kernel, sheet, heap, records, address);
+        shown.expect("the client's bytes").bytes
+    };
     assert_eq!(by_library(), by_second(), "show of {size}");
     let [rattle, second] = race([
         Box::new(|| _ = black_box(by_library())),

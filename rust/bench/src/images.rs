@@ -10,7 +10,8 @@ use crate::turn::low_first;
 /// and the most buffers with the largest heap area there may be, 65,536 bytes.
 pub const LARGEST: [(usize, usize); 3] = [(4096, 15), (24, 512), (112, 512)];
 
-/// How an image of a form is made, with buffers of a size and a count of them.
+/// How an image of a form, and so under a profile, is made, with buffers of a size and a
+/// count of them.
 pub type Make = fn(Form, usize, usize) -> Image;
 
 /// A way to make an image, and whether every buffer of it is free, so that all of its
@@ -86,8 +87,9 @@ fn chained(form: Form, size: usize, count: usize, order: &[usize]) -> Image {
 /// byte first is turned from the other.
 pub fn hurt(form: Form, size: usize, count: usize) -> Image {
     match form {
-        Form::Short | Form::High => hurt_high_first(form, size, count),
         Form::Low => low_first(hurt_high_first(Form::High, size, count)),
+        Form::UserLow => panic!("no hurt userland image is timed low byte first"),
+        _ => hurt_high_first(form, size, count),
     }
 }
 
@@ -112,8 +114,8 @@ pub const MOST_ROWS: u32 = 1024;
 /// buffer, each younger than the one before, or of the first; and what it is called.
 pub fn logged(form: Form) -> [(&'static str, Image); 2] {
     let image = all_free(form, 112, 512);
-    let last_record = image.shape.record_address(image.shape.count - 1);
-    let first_record = image.shape.record_address(0);
+    let last_record = image.record_address(image.shape.count - 1);
+    let first_record = image.record_address(0);
     [
         ("each row younger than the one before", last_record),
         ("no row of the buffer's", first_record),
@@ -138,11 +140,13 @@ fn row(order: Order, record: u32, uptime: u32) -> Vec<u8> {
 fn all_allocated(form: Form, size: usize, count: usize) -> Image {
     let mut image = all_free(form, size, count);
     for buffer in 0..count {
+        let grant = grant_of(&image, buffer);
         allocate(
+            form.profile(),
             &mut image.sheet,
             &mut image.heap,
             &mut image.records,
-            grant_of(size, buffer),
+            grant,
             UPTIME,
             THREAD,
         )
@@ -152,25 +156,26 @@ fn all_allocated(form: Form, size: usize, count: usize) -> Image {
 }
 
 fn take_back(image: &mut Image, buffer: usize) {
+    let grant = grant_of(image, buffer);
     free(
+        image.profile(),
         &mut image.sheet,
         &mut image.heap,
         &mut image.records,
         image.shape.buffer_address(buffer),
-        grant_of(image.shape.size, buffer),
+        grant,
         UPTIME,
         THREAD,
     )
     .expect("a buffer that is out");
 }
 
-/// What a buffer is granted as.
-fn grant_of(size: usize, buffer: usize) -> Grant {
-    let size = size as u32;
+/// What a buffer is granted as: whole, and the largest, the smallest and half of the size.
+fn grant_of(image: &Image, buffer: usize) -> Grant {
     match buffer % 4 {
         0 => Grant::Whole,
-        1 => Grant::Sized(size),
+        1 => Grant::Sized(image.most_request() as u32),
         2 => Grant::Sized(1),
-        _ => Grant::Sized(size / 2),
+        _ => Grant::Sized(image.shape.size as u32 / 2),
     }
 }

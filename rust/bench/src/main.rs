@@ -45,6 +45,15 @@ high byte first: the same words and the same findings. In the other tables the h
 stands first, but in the rows that say otherwise.
 ";
 
+const PROFILES: &str = "
+### Both profiles
+
+Inspect of a userland image, whose records are longer and whose sized grants have a header,
+beside an image of the kernel profile with the same buffers out: the same verdicts. Both have
+the high byte first. In the other tables all images are of the kernel profile. For this there
+is no requirement:
+";
+
 const PLAIN: &str = "
 ### Beside plain C
 
@@ -121,6 +130,8 @@ fn main() -> ExitCode {
     let mut requirements = Vec::from(reader::time_reader());
     println!("{ORDERS}");
     requirements.push(orders::time_orders());
+    println!("{PROFILES}");
+    orders::time_profiles();
     println!("{PLAIN}");
     requirements.extend(plain::time_plain());
     println!("{PAGED}");

@@ -3,7 +3,8 @@
 use std::hint::black_box;
 
 use bench::images::{all_free, half_allocated, hurt, logged, Make, LARGEST, MOST_ROWS};
-use differential::{Form, Image, LONG_FORMS};
+use differential::{Form, Image, KERNEL_LONG_FORMS};
+use reference::Order;
 
 use crate::calls::{pair_by_library, THREAD, UPTIME};
 use crate::placed::Lent;
@@ -22,6 +23,9 @@ pub const HEAD: &str = "\
 | call | Rattle | plain C | ratio | middle half of ratios |
 |---|--:|--:|--:|--:|";
 
+/// The profile that the C is written for.
+const KERNEL: combgallop::Profile = combgallop::Profile::Kernel;
+
 /// Where malloc puts a large area, behind a page's start.
 const BEHIND: usize = 16;
 
@@ -30,7 +34,7 @@ const BEHIND: usize = 16;
 pub fn time_plain() -> Vec<Requirement> {
     println!("{HEAD}");
     let calls = [time_inspect, time_latest, time_pairs];
-    let [high, _low] = LONG_FORMS.map(|form| calls.map(|time| time(form)));
+    let [high, _low] = KERNEL_LONG_FORMS.map(|form| calls.map(|time| time(form)));
     Vec::from(high)
 }
 
@@ -51,9 +55,9 @@ pub fn time_paged() {
 
 /// A call by its name, and by the order of its images where that is not the older one.
 fn named(call: &str, form: Form) -> String {
-    match form {
-        Form::Short | Form::High => call.to_string(),
-        Form::Low => format!("{call}, low first"),
+    match form.order() {
+        Order::HighFirst => call.to_string(),
+        Order::LowFirst => format!("{call}, low first"),
     }
 }
 
@@ -92,7 +96,8 @@ fn race_inspect(lent: &Lent, count: usize) -> [Times; 2] {
     race([
         Box::new(|| {
             let rows = black_box(&mut rows);
-            check(combgallop::inspect_answer(sheet, black_box(heap), records, rows).0);
+            let heap = black_box(heap);
+            check(combgallop::inspect_answer(KERNEL, sheet, heap, records, rows).0);
         }),
         Box::new(|| {
             let rows = black_box(&mut plain_rows);
@@ -107,7 +112,7 @@ fn faults_found(image: &Image) -> usize {
     let (sheet, heap, records) = (&image.sheet, &image.heap, &image.records);
     let mut rows = vec![0; 3 * image.shape.count];
     let mut plain_rows = rows.clone();
-    let answer = combgallop::inspect_answer(sheet, heap, records, &mut rows);
+    let answer = combgallop::inspect_answer(KERNEL, sheet, heap, records, &mut rows);
     let plain_answer = timed::plain_inspect(sheet, heap, records, &mut plain_rows);
     assert_eq!(answer.0, plain_answer, "inspect");
     assert_eq!(rows, plain_rows, "inspect");
@@ -132,7 +137,8 @@ fn time_latest(form: Form) -> Requirement {
             log,
             ..
         } = &image;
-        let by_library = || combgallop::latest_answer(sheet, heap, records, log, index, MOST_ROWS);
+        let by_library =
+            || combgallop::latest_answer(KERNEL, sheet, heap, records, log, index, MOST_ROWS);
         let by_plain = || timed::plain_latest(sheet, heap, records, log, index, MOST_ROWS);
         assert_eq!(by_library().0, by_plain(), "latest, {kind}");
         let [rattle, plain] = race([

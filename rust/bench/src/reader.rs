@@ -121,12 +121,14 @@ fn faults_found(case: &str, image: &Image) -> usize {
 }
 
 pub fn inspect_by_library(image: &Image, rows: &mut [u32]) {
-    let answer = combgallop::inspect(&image.sheet, &image.heap, &image.records, rows);
+    let (sheet, heap, records) = (&image.sheet, &image.heap, &image.records);
+    let answer = combgallop::inspect(combgallop::Profile::Kernel, sheet, heap, records, rows);
     black_box(answer).expect("a lawful image");
 }
 
 pub fn inspect_by_second(image: &Image, rows: &mut [Finding]) {
-    let answer = reference::inspect(&image.sheet, &image.heap, &image.records, rows);
+    let (sheet, heap, records) = (&image.sheet, &image.heap, &image.records);
+    let answer = reference::inspect(reference::Profile::Kernel, sheet, heap, records, rows);
     black_box(answer).expect("a lawful image");
 }
 
@@ -138,7 +140,8 @@ fn report_by_library(image: &Image, output: &mut [u8]) {
         log,
         ..
     } = image;
-    let answer = combgallop::report(sheet, heap, records, log, output);
+    let profile = combgallop::Profile::Kernel;
+    let answer = combgallop::report(profile, sheet, heap, records, log, output);
     black_box(answer).expect("a lawful image");
 }
 
@@ -150,7 +153,8 @@ fn report_by_second(image: &Image, output: &mut [u8]) {
         log,
         ..
     } = image;
-    let answer = reference::report(sheet, heap, records, log, output);
+    let profile = reference::Profile::Kernel;
+    let answer = reference::report(profile, sheet, heap, records, log, output);
     black_box(answer).expect("a lawful image");
 }
 
@@ -171,8 +175,14 @@ fn time_log(case: &str, image: &Image, buffer: u32) {
         log,
         ..
     } = image;
-    let by_library = || combgallop::latest(sheet, heap, records, log, buffer, MOST_ROWS);
-    let by_second = || reference::latest(sheet, heap, records, log, buffer, MOST_ROWS);
+    let by_library = || {
+        let profile = combgallop::Profile::Kernel;
+        combgallop::latest(profile, sheet, heap, records, log, buffer, MOST_ROWS)
+    };
+    let by_second = || {
+        let profile = reference::Profile::Kernel;
+        reference::latest(profile, sheet, heap, records, log, buffer, MOST_ROWS)
+    };
     let found = format!("{:?}", by_library());
     assert_eq!(found, format!("{:?}", by_second()), "{case}");
     let [rattle, second] = race([

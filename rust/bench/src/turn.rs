@@ -9,15 +9,13 @@ const ORDER: usize = 51;
 const STAMP: usize = 16;
 const STAMP_END: usize = 24;
 
-const RECORD_LENGTH: usize = 96;
-
 const FREE_TAG: u32 = 0xf4ee_f4ee;
 const ALLOCATED_TAG: u32 = 0xa110_c8ed;
 const FREE_FILL: u32 = 0xdead_beef;
 const REDZONE: u32 = 0xfeed_face;
 
-/// The same image with the low byte first, given one with the high byte first and with no
-/// log.
+/// The same image with the low byte first, given one of the kernel profile with the high
+/// byte first and with no log.
 ///
 /// Words are turned as words, and a stamp as one number. Where the rules compare bytes with
 /// those of a word, in the fill and the redzone of a free buffer and in R0 of an allocated
@@ -25,12 +23,13 @@ const REDZONE: u32 = 0xfeed_face;
 /// stays so. Every verdict is then the same, with its size or offset. A client's bytes stay.
 pub fn low_first(mut image: Image) -> Image {
     assert!(image.form == Form::High && image.log.is_empty());
+    let record_size = image.record_size();
     let size = image.shape.size;
     for chunk in image.heap.chunks_exact_mut(image.shape.chunk_size()) {
         let (buffer, tail) = chunk.split_at_mut(size);
         turn_chunk(buffer, tail);
     }
-    for record in image.records.chunks_exact_mut(RECORD_LENGTH) {
+    for record in image.records.chunks_exact_mut(record_size) {
         turn_words(record);
         record[STAMP..STAMP_END].rotate_left(4);
     }

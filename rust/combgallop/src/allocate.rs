@@ -1,10 +1,11 @@
 //! The grant of a buffer.
 
-use crate::{ffi, Answer, Grant, Refusal};
+use crate::{ffi, Answer, Grant, Profile, Refusal};
 
 /// Grants the buffer of the chain's first record and answers its address. A refusal
 /// changes nothing.
 pub fn allocate(
+    profile: Profile,
     sheet: &mut [u8],
     heap: &mut [u8],
     records: &mut [u8],
@@ -12,11 +13,12 @@ pub fn allocate(
     uptime: u32,
     thread: u32,
 ) -> Result<u32, Refusal> {
-    allocate_answer(sheet, heap, records, grant, uptime, thread).value()
+    allocate_answer(profile, sheet, heap, records, grant, uptime, thread).value()
 }
 
 /// As `allocate`, with the answer as the library gives it.
 pub fn allocate_answer(
+    profile: Profile,
     sheet: &mut [u8],
     heap: &mut [u8],
     records: &mut [u8],
@@ -29,6 +31,7 @@ pub fn allocate_answer(
     // can reach the three areas before the call returns.
     let answer = unsafe {
         ffi::cg_allocate(
+            profile.is_userland(),
             sheet.as_mut_ptr(),
             sheet.len(),
             heap.as_mut_ptr(),

@@ -5,7 +5,8 @@ use std::fmt::Debug;
 use crate::Refusal;
 
 /// Bits 0 to 7 are the refusal's number, 0 when accepted; bits 8 to 15 its detail;
-/// bits 32 to 63 the value. The other bits are 0, and so is the value of a refusal.
+/// bits 16 to 31 the start of the client's bytes, for a show; bits 32 to 63 the value. The
+/// start is 0 in every other answer, and so is the value of a refusal.
 #[derive(Clone, Copy, PartialEq, Eq, Debug)]
 pub struct Answer(pub u64);
 
@@ -18,6 +19,11 @@ impl Answer {
         }
         let refusal = Refusal::from_numbers(number, detail);
         Err(named(refusal, "refusal", [number, detail]))
+    }
+
+    /// Where in the buffer the client's bytes start, in the answer to an accepted show.
+    pub fn start(self) -> u16 {
+        (self.0 >> 16) as u16
     }
 
     /// Why the call was refused, for one whose value says nothing.
@@ -48,10 +54,19 @@ mod tests {
     }
 
     #[test]
+    fn start_of_the_clients_bytes() {
+        let answer = Answer(0x8000_0201_fff8_0000);
+        assert_eq!((answer.value(), answer.start()), (Ok(0x8000_0201), 0xfff8));
+        assert_eq!(Answer(0x1407).start(), 0);
+    }
+
+    #[test]
     fn number_and_detail_of_a_refusal() {
         let damage = Refusal::Damage(Fault::NotOneRecord);
         assert_eq!(Answer(0x1407).value(), Err(damage));
         assert_eq!(Answer(0x1d07).value(), Err(Refusal::BrokenHead));
+        let damage = Refusal::Damage(Fault::BadHeader);
+        assert_eq!(Answer(0x1e07).value(), Err(damage));
         assert_eq!(Answer(12).value(), Err(Refusal::WideStamp));
     }
 

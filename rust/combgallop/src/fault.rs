@@ -14,10 +14,11 @@ pub enum Fault {
     BadRedzone = 26,
     BadSizeCode = 27,
     Overrun = 28,
+    BadHeader = 30,
 }
 
 impl Fault {
-    pub const ALL: [Fault; 9] = [
+    pub const ALL: [Fault; 10] = [
         Fault::NotOneRecord,
         Fault::BadTag,
         Fault::FreedTwice,
@@ -27,6 +28,7 @@ impl Fault {
         Fault::BadRedzone,
         Fault::BadSizeCode,
         Fault::Overrun,
+        Fault::BadHeader,
     ];
 
     /// The fault with a number, none where there is no such fault.
@@ -58,6 +60,9 @@ impl Fault {
                 "the buffer is allocated but the word that holds its size is damaged"
             }
             Fault::Overrun => "the buffer was written to past the end of what was granted",
+            Fault::BadHeader => {
+                "the eight bytes before the client's, which hold the grant's size, are damaged"
+            }
         }
     }
 }

@@ -3,6 +3,7 @@
 
 extern "C" {
     pub fn cg_area_lengths(
+        userland: bool,
         sheet: *const u8,
         sheet_length: usize,
         lengths: *mut u32,
@@ -10,6 +11,7 @@ extern "C" {
     ) -> u64;
 
     pub fn cg_inspect(
+        userland: bool,
         sheet: *const u8,
         sheet_length: usize,
         heap: *const u8,
@@ -21,6 +23,7 @@ extern "C" {
     ) -> u64;
 
     pub fn cg_survey(
+        userland: bool,
         sheet: *const u8,
         sheet_length: usize,
         heap: *const u8,
@@ -36,6 +39,7 @@ extern "C" {
     ) -> u64;
 
     pub fn cg_latest(
+        userland: bool,
         sheet: *const u8,
         sheet_length: usize,
         heap: *const u8,
@@ -49,6 +53,7 @@ extern "C" {
     ) -> u64;
 
     pub fn cg_report(
+        userland: bool,
         sheet: *const u8,
         sheet_length: usize,
         heap: *const u8,
@@ -62,6 +67,7 @@ extern "C" {
     ) -> u64;
 
     pub fn cg_lay_out(
+        userland: bool,
         low_first: bool,
         cache: u32,
         heap_base: u32,
@@ -77,6 +83,7 @@ extern "C" {
     ) -> u64;
 
     pub fn cg_allocate(
+        userland: bool,
         sheet: *mut u8,
         sheet_length: usize,
         heap: *mut u8,
@@ -90,6 +97,7 @@ extern "C" {
     ) -> u64;
 
     pub fn cg_free(
+        userland: bool,
         sheet: *mut u8,
         sheet_length: usize,
         heap: *mut u8,
@@ -104,6 +112,7 @@ extern "C" {
     ) -> u64;
 
     pub fn cg_store(
+        userland: bool,
         sheet: *const u8,
         sheet_length: usize,
         heap: *mut u8,
@@ -117,6 +126,7 @@ extern "C" {
     ) -> u64;
 
     pub fn cg_show(
+        userland: bool,
         sheet: *const u8,
         sheet_length: usize,
         heap: *const u8,

@@ -1,10 +1,11 @@
 //! The return of a buffer.
 
-use crate::{ffi, Answer, Grant, Refusal};
+use crate::{ffi, Answer, Grant, Profile, Refusal};
 
 /// Takes back the buffer at an address, with the grant it was handed out with; its
 /// record becomes the chain's first. A refusal changes nothing.
 pub fn free(
+    profile: Profile,
     sheet: &mut [u8],
     heap: &mut [u8],
     records: &mut [u8],
@@ -13,11 +14,15 @@ pub fn free(
     uptime: u32,
     thread: u32,
 ) -> Result<(), Refusal> {
-    free_answer(sheet, heap, records, address, grant, uptime, thread).done()
+    free_answer(
+        profile, sheet, heap, records, address, grant, uptime, thread,
+    )
+    .done()
 }
 
 /// As `free`, with the answer as the library gives it.
 pub fn free_answer(
+    profile: Profile,
     sheet: &mut [u8],
     heap: &mut [u8],
     records: &mut [u8],
@@ -31,6 +36,7 @@ pub fn free_answer(
     // can reach the three areas before the call returns.
     let answer = unsafe {
         ffi::cg_free(
+            profile.is_userland(),
             sheet.as_mut_ptr(),
             sheet.len(),
             heap.as_mut_ptr(),

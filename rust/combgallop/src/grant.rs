@@ -1,6 +1,7 @@
 //! What a client asks for, and hands back.
 
-/// The whole buffer, or so many bytes of it.
+/// The whole buffer, or so many bytes of it. The size is the client's request, without the
+/// header that the userland profile puts before its bytes.
 #[derive(Clone, Copy, PartialEq, Eq, Debug)]
 pub enum Grant {
     Whole,

@@ -1,12 +1,13 @@
 //! A fresh image.
 
-use crate::{ffi, Answer, Order, Refusal};
+use crate::{ffi, Answer, Order, Profile, Refusal};
 
 /// Writes all three areas: `count` free buffers of `size` bytes, buffer i paired with
-/// record i, and the chain through them in order. The words of heap and records stand in
-/// the order given, which the sheet then says; the sheet takes 52 bytes. A refusal changes
-/// nothing.
+/// record i, and the chain through them in order. The records are those of the profile. The
+/// words of heap and records stand in the order given, which the sheet then says; the sheet
+/// takes 52 bytes. A refusal changes nothing.
 pub fn lay_out(
+    profile: Profile,
     order: Order,
     cache: u32,
     heap_base: u32,
@@ -18,6 +19,7 @@ pub fn lay_out(
     records: &mut [u8],
 ) -> Result<(), Refusal> {
     let answer = lay_out_answer(
+        profile,
         order,
         cache,
         heap_base,
@@ -33,6 +35,7 @@ pub fn lay_out(
 
 /// As `lay_out`, with the answer as the library gives it.
 pub fn lay_out_answer(
+    profile: Profile,
     order: Order,
     cache: u32,
     heap_base: u32,
@@ -47,6 +50,7 @@ pub fn lay_out_answer(
     // can reach the three areas before the call returns.
     let answer = unsafe {
         ffi::cg_lay_out(
+            profile.is_userland(),
             order.is_low_first(),
             cache,
             heap_base,

@@ -3,7 +3,7 @@
 //! Every decision is made in the verified library. Here its C functions are called with
 //! slices, and the numbers they answer become types. A call whose name ends in `_answer`
 //! hands back the numbers as they are. No call keeps what it was lent, and whatever the
-//! bytes are, each call returns.
+//! bytes are, each call returns. The caller names an image's profile in every call.
 
 mod allocate;
 mod answer;
@@ -18,6 +18,7 @@ mod inspect;
 mod latest;
 mod lay_out;
 mod order;
+mod profile;
 mod refusal;
 mod report;
 mod show;
@@ -37,6 +38,7 @@ pub use inspect::{inspect, inspect_answer};
 pub use latest::{latest, latest_answer, Latest};
 pub use lay_out::{lay_out, lay_out_answer};
 pub use order::Order;
+pub use profile::Profile;
 pub use refusal::Refusal;
 pub use report::{report, report_answer};
 pub use show::{show, show_answer};

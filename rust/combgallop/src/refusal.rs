@@ -81,7 +81,9 @@ impl Refusal {
             Refusal::BadLength => "the heap, the records or the log have a wrong length",
             Refusal::NoSuchBuffer => "no buffer has this address or index",
             Refusal::NoRoom => "no buffer is left on the chain of free buffers",
-            Refusal::BadSize => "the size asked for is 0 or above the buffer size",
+            Refusal::BadSize => {
+                "the size asked for is 0 or above the buffer size, less 8 under the userland profile"
+            }
             Refusal::Damage(_) => "damage met",
             Refusal::BrokenHead => "damage met: the chain of free buffers starts at no record",
             Refusal::NotAllocated => "the buffer is free",
@@ -118,7 +120,7 @@ mod tests {
     use crate::Fault;
 
     /// The document's table, "detail is the verdict number, or 29 for a broken head".
-    const TABLE: [(u8, u8, Refusal); 21] = [
+    const TABLE: [(u8, u8, Refusal); 22] = [
         (1, 0, Refusal::BadSheet),
         (2, 0, Refusal::BadNumber),
         (3, 0, Refusal::BadLength),
@@ -135,6 +137,7 @@ mod tests {
         (7, 27, Refusal::Damage(Fault::BadSizeCode)),
         (7, 28, Refusal::Damage(Fault::Overrun)),
         (7, 29, Refusal::BrokenHead),
+        (7, 30, Refusal::Damage(Fault::BadHeader)),
         (8, 0, Refusal::NotAllocated),
         (9, 0, Refusal::OtherGrant),
         (10, 0, Refusal::PastClient),

@@ -1,10 +1,12 @@
 //! What a client writes.
 
-use crate::{ffi, Answer, Refusal};
+use crate::{ffi, Answer, Profile, Refusal};
 
-/// Writes bytes at an offset in the client's bytes of the buffer at an address. A
-/// refusal changes nothing.
+/// Writes bytes at an offset in the client's bytes of the buffer at an address; the first
+/// of these, which is behind the header where there is one, is at 0. A refusal changes
+/// nothing.
 pub fn store(
+    profile: Profile,
     sheet: &[u8],
     heap: &mut [u8],
     records: &[u8],
@@ -12,11 +14,12 @@ pub fn store(
     offset: u32,
     bytes: &[u8],
 ) -> Result<(), Refusal> {
-    store_answer(sheet, heap, records, address, offset, bytes).done()
+    store_answer(profile, sheet, heap, records, address, offset, bytes).done()
 }
 
 /// As `store`, with the answer as the library gives it.
 pub fn store_answer(
+    profile: Profile,
     sheet: &[u8],
     heap: &mut [u8],
     records: &[u8],
@@ -28,6 +31,7 @@ pub fn store_answer(
     // can reach `heap` before the call returns.
     let answer = unsafe {
         ffi::cg_store(
+            profile.is_userland(),
             sheet.as_ptr(),
             sheet.len(),
             heap.as_mut_ptr(),

@@ -1,6 +1,6 @@
 //! The findings of an image, and its chain.
 
-use crate::{ffi, Answer, Chain, Findings, Refusal};
+use crate::{ffi, Answer, Chain, Findings, Profile, Refusal};
 
 /// What is found of every buffer, and of the chain.
 #[derive(Clone, Debug)]
@@ -12,6 +12,7 @@ pub struct Survey<'a> {
 /// Judges every buffer and walks the chain. Fills three of the numbers lent for each
 /// buffer, as `inspect` does, and hands back what they say. A refusal changes nothing.
 pub fn survey<'a>(
+    profile: Profile,
     sheet: &[u8],
     heap: &[u8],
     records: &[u8],
@@ -19,7 +20,7 @@ pub fn survey<'a>(
     rows: &'a mut [u32],
 ) -> Result<Survey<'a>, Refusal> {
     let mut chain = [0; 3];
-    let count = survey_answer(sheet, heap, records, log, rows, &mut chain).value()?;
+    let count = survey_answer(profile, sheet, heap, records, log, rows, &mut chain).value()?;
     Ok(Survey {
         findings: Findings::new(rows, count),
         chain: Chain::new(chain),
@@ -30,6 +31,7 @@ pub fn survey<'a>(
 /// three numbers for the chain: records met; 0 for its end, 1 where it is broken, 2
 /// where it comes back to a record; that record's index, else 0. Numbers past those stay.
 pub fn survey_answer(
+    profile: Profile,
     sheet: &[u8],
     heap: &[u8],
     records: &[u8],
@@ -41,6 +43,7 @@ pub fn survey_answer(
     // can reach `rows` and `chain` before the call returns.
     let answer = unsafe {
         ffi::cg_survey(
+            profile.is_userland(),
             sheet.as_ptr(),
             sheet.len(),
             heap.as_ptr(),

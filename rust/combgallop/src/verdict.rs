@@ -4,8 +4,9 @@ use std::fmt::{Display, Formatter, Result as Written};
 
 use crate::Fault;
 
-/// The verdicts in the order of their numbers. A size is that of the grant; an offset
-/// is that of the first byte that differs, from the buffer's start.
+/// The verdicts in the order of their numbers. A size is that which the client asked for,
+/// without a header; an offset is that of the first byte that differs, from the buffer's
+/// start. Only userland images have a header to be wrong.
 #[derive(Clone, Copy, PartialEq, Eq, Debug)]
 pub enum Verdict {
     Free,
@@ -20,6 +21,7 @@ pub enum Verdict {
     BadRedzone(u32),
     BadSizeCode,
     Overrun(u32),
+    BadHeader,
 }
 
 impl Verdict {
@@ -39,6 +41,7 @@ impl Verdict {
             (26, offset) => Verdict::BadRedzone(offset),
             (27, 0) => Verdict::BadSizeCode,
             (28, offset) => Verdict::Overrun(offset),
+            (30, 0) => Verdict::BadHeader,
             _ => return None,
         })
     }
@@ -57,6 +60,7 @@ impl Verdict {
             Verdict::BadRedzone(_) => 26,
             Verdict::BadSizeCode => 27,
             Verdict::Overrun(_) => 28,
+            Verdict::BadHeader => 30,
         }
     }
 
@@ -97,7 +101,7 @@ mod tests {
 
     /// The document's verdicts: number, size or offset, and whether it is a fault,
     /// which is "a verdict of 20 or more".
-    const TABLE: [(u32, u32, Verdict, bool); 12] = [
+    const TABLE: [(u32, u32, Verdict, bool); 13] = [
         (0, 0, Verdict::Free, false),
         (1, 0, Verdict::Whole, false),
         (2, 20, Verdict::Allocated(20), false),
@@ -110,6 +114,7 @@ mod tests {
         (26, 24, Verdict::BadRedzone(24), true),
         (27, 0, Verdict::BadSizeCode, true),
         (28, 20, Verdict::Overrun(20), true),
+        (30, 0, Verdict::BadHeader, true),
     ];
 
     #[test]
@@ -172,6 +177,6 @@ mod tests {
                 meaning.expect("its number first").to_string()
             })
             .collect();
-        assert_eq!(meanings.len(), 9);
+        assert_eq!(meanings.len(), 10);
     }
 }

@@ -2,13 +2,15 @@
 
 use std::fmt::{Display, Formatter, Result};
 
+use reference::Profile;
+
 use crate::hurt::hurt;
 use crate::{sound_image, Image, Sequence};
 
 /// The most bytes of an image that are written out in full.
 const MOST_WRITTEN: usize = 4096;
 
-/// One image of a seed, by its number.
+/// One image of a seed, by its profile and number.
 pub struct Case {
     seed: u64,
     number: u64,
@@ -19,9 +21,9 @@ pub struct Case {
 impl Case {
     /// The image, and the sequence from which the rest of its test is drawn. No case
     /// depends on those before it.
-    pub fn new(seed: u64, number: u64) -> (Case, Sequence) {
+    pub fn new(profile: Profile, seed: u64, number: u64) -> (Case, Sequence) {
         let mut sequence = Sequence::new(Sequence::new(seed).number() ^ number);
-        let mut image = sound_image(&mut sequence);
+        let mut image = sound_image(profile, &mut sequence);
         let hurts = hurt(&mut image, &mut sequence);
         let case = Case {
             seed,

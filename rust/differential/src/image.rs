@@ -1,11 +1,13 @@
 //! An image's areas and log, and where things stand in them.
 
-use reference::{lay_out, Order, SHEET_LENGTH};
+use std::ops::Range;
 
-use crate::words::{put_sheet_word, put_word, sheet_word, word};
+use reference::{lay_out, Grant, Order, Profile, SHEET_LENGTH};
+
+use crate::profile::{header, header_length, record_size};
+use crate::words::{put_bytes, put_sheet_word, put_word, sheet_word, word};
 use crate::Form;
 
-pub const RECORD_SIZE: usize = 96;
 pub const ROW_SIZE: usize = 16;
 
 /// Where the bodies of the sheet's fields stand.
@@ -40,6 +42,7 @@ pub fn stamp_low(order: Order) -> usize {
 
 pub const FREE_FILL: u32 = 0xdead_beef;
 pub const REDZONE: u32 = 0xfeed_face;
+pub const GUARD: u8 = 0xbb;
 
 /// R0 after a grant of the full size: its first byte is the guard.
 pub fn full_r0(order: Order) -> u32 {
@@ -52,7 +55,7 @@ pub fn full_r0(order: Order) -> u32 {
 pub const ALLOCATED_TAG: u32 = 0xa110_c8ed;
 pub const FREE_TAG: u32 = 0xf4ee_f4ee;
 
-/// The numbers that a cache is laid out with.
+/// The numbers that a cache is laid out with, under either profile.
 #[derive(Clone, Copy, Debug)]
 pub struct Shape {
     pub cache: u32,
@@ -71,26 +74,13 @@ impl Shape {
         self.count * self.chunk_size()
     }
 
-    pub fn record_length(&self) -> usize {
-        self.count * RECORD_SIZE
-    }
-
     pub fn buffer_address(&self, buffer: usize) -> u32 {
         self.heap_base + (buffer * self.chunk_size()) as u32
-    }
-
-    pub fn record_address(&self, record: usize) -> u32 {
-        self.record_base + (record * RECORD_SIZE) as u32
     }
 
     /// Which buffer starts at an address, if one does.
     pub fn buffer_at(&self, address: u32) -> Option<usize> {
         self.index_of(address, self.heap_base, self.chunk_size())
-    }
-
-    /// Which record starts at an address, if one does.
-    pub fn record_at(&self, address: u32) -> Option<usize> {
-        self.index_of(address, self.record_base, RECORD_SIZE)
     }
 
     /// Which part starts at an address, where each is `step` bytes from `base` on.
@@ -122,8 +112,9 @@ impl Image {
     pub fn laid_out(form: Form, shape: Shape, times: [u32; 5]) -> Image {
         let mut sheet = vec![0; SHEET_LENGTH];
         let mut heap = vec![0; shape.heap_length()];
-        let mut records = vec![0; shape.record_length()];
+        let mut records = vec![0; shape.count * record_size(form.profile())];
         lay_out(
+            form.profile(),
             form.order(),
             shape.cache,
             shape.heap_base,
@@ -167,6 +158,11 @@ impl Image {
         [vec![self.sheet.len() as u8], self.bytes()].concat()
     }
 
+    /// The profile to be named in every call on it.
+    pub fn profile(&self) -> Profile {
+        self.form.profile()
+    }
+
     /// The order of the words that it was made with.
     pub fn order(&self) -> Order {
         self.form.order()
@@ -175,7 +171,35 @@ impl Image {
     /// The form that its sheet has now, or that it was made with where the sheet is
     /// refused.
     pub fn read_form(&self) -> Form {
-        Form::of_sheet(&self.sheet).unwrap_or(self.form)
+        Form::of_sheet(self.profile(), &self.sheet).unwrap_or(self.form)
+    }
+
+    pub fn record_size(&self) -> usize {
+        record_size(self.profile())
+    }
+
+    pub fn record_length(&self) -> usize {
+        self.shape.count * self.record_size()
+    }
+
+    pub fn record_address(&self, record: usize) -> u32 {
+        self.shape.record_base + self.record(record) as u32
+    }
+
+    /// Which record starts at an address, if one does.
+    pub fn record_at(&self, address: u32) -> Option<usize> {
+        let shape = self.shape;
+        shape.index_of(address, shape.record_base, self.record_size())
+    }
+
+    /// Where record `index` starts in the record area.
+    pub fn record(&self, index: usize) -> usize {
+        index * self.record_size()
+    }
+
+    /// The largest request that is not refused for its size, 0 where every one is.
+    pub fn most_request(&self) -> usize {
+        self.shape.size - header_length(self.profile())
     }
 
     pub fn heap_word(&self, at: usize) -> u32 {
@@ -231,5 +255,56 @@ impl Image {
     /// The tag word of a buffer, 0 where the heap area has been cut before it.
     pub fn tag(&self, index: usize) -> u32 {
         self.heap_word(self.t0(index)) ^ self.heap_word(self.t1(index))
+    }
+
+    /// The size that R1 codes, or the buffer size where it codes none.
+    pub fn coded_size(&self, index: usize) -> usize {
+        let size = self.heap_word(self.r1(index)) as usize / 251;
+        size.min(self.shape.size)
+    }
+
+    /// The grant that a buffer's R1 tells, as well as it can be told.
+    pub fn told_grant(&self, index: usize) -> Grant {
+        match self.heap_word(self.r1(index)) {
+            REDZONE => Grant::Whole,
+            code => {
+                let header_length = header_length(self.profile()) as u32;
+                Grant::Sized((code / 251).wrapping_sub(header_length))
+            }
+        }
+    }
+
+    /// Where the client's bytes stand in a buffer, by what its R1 tells; none do where the
+    /// coded size ends before the header.
+    pub fn client(&self, index: usize) -> Range<usize> {
+        match self.told_grant(index) {
+            Grant::Whole => 0..self.shape.size,
+            Grant::Sized(_) => {
+                let start = header_length(self.profile());
+                start..self.coded_size(index).max(start)
+            }
+        }
+    }
+
+    /// Writes the header of a coded size, where the profile has one.
+    pub fn put_header(&mut self, index: usize, coded_size: u32) {
+        let header = header(self.profile(), self.order(), coded_size);
+        let start = self.buffer(index);
+        put_bytes(&mut self.heap, start, &header);
+    }
+
+    /// Writes header, guard and redzone as a grant leaves them. The rest of the buffer and
+    /// its tag stay.
+    pub fn put_grant(&mut self, index: usize, grant: Grant) {
+        let (r0, r1) = (self.r0(index), self.r1(index));
+        self.put_heap_word(r0, REDZONE);
+        self.put_heap_word(r1, REDZONE);
+        if let Grant::Sized(request) = grant {
+            let coded_size = request + header_length(self.profile()) as u32;
+            let guard = self.buffer(index) + coded_size as usize;
+            self.put_header(index, coded_size);
+            put_bytes(&mut self.heap, guard, &[GUARD]);
+            self.put_heap_word(r1, 251 * coded_size + 1);
+        }
     }
 }

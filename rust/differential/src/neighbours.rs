@@ -1,28 +1,29 @@
 //! Images one small step from the dump, every one of them.
 
+use reference::{Grant, Profile};
+
 use crate::image::{full_r0, REDZONE};
 use crate::samples::dump;
-use crate::{Form, Image, FORMS};
+use crate::{Form, Image};
 
-/// In each form, each byte of the dump's sheet, heap and records, changed to each other
-/// value; with its allocated buffer as it is, granted whole, and granted at full size.
-pub fn each_neighbour(mut see: impl FnMut(&Image)) {
-    for form in FORMS {
-        for redzone in [
-            [REDZONE, 0x139d],
-            [REDZONE; 2],
-            [full_r0(form.order()), 0x1789],
-        ] {
-            each_changed_byte(form, redzone, &mut see);
+/// In each of these forms, each byte of the dump's sheet, heap and records, changed to each
+/// other value; with its allocated buffer as it is, granted whole, and granted at the
+/// largest size.
+pub fn each_neighbour(forms: &[Form], mut see: impl FnMut(&Image)) {
+    for &form in forms {
+        let image = dump(form);
+        let as_it_is = image.told_grant(1);
+        let largest = Grant::Sized(image.most_request() as u32);
+        for grant in [as_it_is, Grant::Whole, largest] {
+            each_changed_byte(form, grant, &mut see);
         }
     }
 }
 
-/// The same with these redzone words of the allocated buffer.
-fn each_changed_byte(form: Form, [r0, r1]: [u32; 2], see: &mut impl FnMut(&Image)) {
+/// The same with the allocated buffer granted so.
+fn each_changed_byte(form: Form, grant: Grant, see: &mut impl FnMut(&Image)) {
     let mut image = dump(form);
-    image.put_heap_word(image.r0(1), r0);
-    image.put_heap_word(image.r1(1), r1);
+    image.put_grant(1, grant);
     let lengths = [image.sheet.len(), image.heap.len(), image.records.len()];
     for (area, length) in lengths.into_iter().enumerate() {
         for at in 0..length {
@@ -41,21 +42,36 @@ fn each_value(image: &mut Image, area: usize, at: usize, see: &mut impl FnMut(&I
     *image.byte_mut(area, at) = stood;
 }
 
-/// In each form, every small R1 of the dump's allocated buffer, past the code of its
-/// buffer size, with R0 of either grant and with the guard byte everywhere or nowhere.
-pub fn each_small_size_code(mut see: impl FnMut(&Image)) {
-    for form in FORMS {
-        let mut image = dump(form);
-        for byte in [0xbb, 0xba] {
-            for r0 in [REDZONE, full_r0(form.order())] {
-                let buffer = image.buffer(1)..image.r0(1);
-                image.heap[buffer].fill(byte);
-                image.put_heap_word(image.r0(1), r0);
-                for r1 in 0..7_000 {
-                    image.put_heap_word(image.r1(1), r1);
-                    see(&image);
+/// In each of these forms, every small R1 of the dump's allocated buffer, past the code of
+/// its buffer size, with R0 of either grant and with the guard byte everywhere or nowhere;
+/// where the profile has a header, without it and with that of the size coded.
+pub fn each_small_size_code(forms: &[Form], mut see: impl FnMut(&Image)) {
+    for &form in forms {
+        let headers: &[bool] = match form.profile() {
+            Profile::Kernel => &[false],
+            Profile::Userland => &[false, true],
+        };
+        for &has_header in headers {
+            for byte in [0xbb, 0xba] {
+                for r0 in [REDZONE, full_r0(form.order())] {
+                    each_size_code(form, byte, r0, has_header, &mut see);
                 }
             }
         }
+    }
+}
+
+/// The same with this byte in the buffer, and with this R0.
+fn each_size_code(form: Form, byte: u8, r0: u32, has_header: bool, see: &mut impl FnMut(&Image)) {
+    let mut image = dump(form);
+    let buffer = image.buffer(1)..image.r0(1);
+    image.heap[buffer].fill(byte);
+    image.put_heap_word(image.r0(1), r0);
+    for r1 in 0..7_000 {
+        image.put_heap_word(image.r1(1), r1);
+        if has_header {
+            image.put_header(1, r1 / 251);
+        }
+        see(&image);
     }
 }

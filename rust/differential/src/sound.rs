@@ -1,8 +1,9 @@
 //! Sound images: laid out, used by lists of calls, and re-paired.
 
-use reference::{allocate, free, show, store, Grant};
+use reference::{allocate, free, show, store, Grant, Profile};
 
-use crate::image::{FREE_FILL, NEXT, RECORD_SIZE};
+use crate::image::{FREE_FILL, NEXT};
+use crate::profile::record_size;
 use crate::words::{put_word, word, word_bytes};
 use crate::{Form, Image, Sequence, Shape};
 
@@ -21,9 +22,9 @@ const EXTREMES: [(usize, usize); 7] = [
 const ADDRESSES: u64 = 1 << 32;
 
 /// An image without a fault, with a log.
-pub fn sound_image(sequence: &mut Sequence) -> Image {
-    let form = some_form(sequence);
-    let shape = some_shape(sequence);
+pub fn sound_image(profile: Profile, sequence: &mut Sequence) -> Image {
+    let form = some_form(sequence).under(profile);
+    let shape = some_shape(profile, sequence);
     let times = some_times(sequence);
     let mut image = Image::laid_out(form, shape, times);
     run_calls(&mut image, sequence);
@@ -40,8 +41,8 @@ fn some_form(sequence: &mut Sequence) -> Form {
     sequence.pick(&[Form::Low, Form::Low, Form::High, Form::Short])
 }
 
-/// The numbers of a lawful lay out.
-pub fn some_shape(sequence: &mut Sequence) -> Shape {
+/// The numbers of a lawful lay out under a profile.
+pub fn some_shape(profile: Profile, sequence: &mut Sequence) -> Shape {
     let (size, count) = some_sizes(sequence);
     let shape = Shape {
         cache: sequence.word(),
@@ -50,18 +51,18 @@ pub fn some_shape(sequence: &mut Sequence) -> Shape {
         size,
         count,
     };
-    move_areas(shape, sequence)
+    move_areas(profile, shape, sequence)
 }
 
 /// The same sizes with other lawful bases.
-pub fn move_areas(mut shape: Shape, sequence: &mut Sequence) -> Shape {
+pub fn move_areas(profile: Profile, mut shape: Shape, sequence: &mut Sequence) -> Shape {
     let heap_length = shape.heap_length() as u64;
-    let record_length = shape.record_length() as u64;
+    let record_length = (shape.count * record_size(profile)) as u64;
     loop {
         let heap_base = some_base(heap_length, sequence);
         let record_base = match sequence.below(4) {
             0 => heap_base + heap_length,
-            1 => heap_base.saturating_sub(record_length),
+            1 => heap_base.saturating_sub(record_length) / 8 * 8,
             _ => some_base(record_length, sequence),
         };
         let heap_end = heap_base + heap_length;
@@ -90,7 +91,7 @@ fn some_sizes(sequence: &mut Sequence) -> (usize, usize) {
 
 /// A base for so many bytes: the lowest, the highest or any.
 fn some_base(length: u64, sequence: &mut Sequence) -> u64 {
-    let highest = ADDRESSES - length;
+    let highest = (ADDRESSES - length) / 8 * 8;
     match sequence.below(4) {
         0 => 8,
         1 => highest,
@@ -129,16 +130,17 @@ fn run_calls(image: &mut Image, sequence: &mut Sequence) {
 }
 
 fn grant(image: &mut Image, granted: &mut Vec<(u32, Grant)>, sequence: &mut Sequence) {
-    let size = image.shape.size;
+    let most = image.most_request().max(1);
     let grant = match sequence.below(6) {
         0 | 1 => Grant::Whole,
         2 => Grant::Sized(1),
-        3 => Grant::Sized(size as u32),
-        4 => Grant::Sized(size as u32 - 1),
-        _ => Grant::Sized(sequence.between(1, size) as u32),
+        3 => Grant::Sized(most as u32),
+        4 => Grant::Sized(most as u32 - 1),
+        _ => Grant::Sized(sequence.between(1, most) as u32),
     };
     let uptime = sequence.pick(&image.times);
     let answer = allocate(
+        image.profile(),
         &mut image.sheet,
         &mut image.heap,
         &mut image.records,
@@ -153,6 +155,7 @@ fn take_back(image: &mut Image, granted: &mut Vec<(u32, Grant)>, sequence: &mut 
     let (address, grant) = granted.swap_remove(sequence.below(granted.len()));
     let uptime = sequence.pick(&image.times);
     free(
+        image.profile(),
         &mut image.sheet,
         &mut image.heap,
         &mut image.records,
@@ -167,8 +170,9 @@ fn take_back(image: &mut Image, granted: &mut Vec<(u32, Grant)>, sequence: &mut 
 /// A client stores any bytes, or the fill of free buffers, which must not make its
 /// buffer free.
 fn store_some(image: &mut Image, address: u32, sequence: &mut Sequence) {
-    let shown = show(&image.sheet, &image.heap, &image.records, address);
-    let room = shown.expect("a granted buffer is shown").len();
+    let (profile, records) = (image.profile(), &image.records);
+    let shown = show(profile, &image.sheet, &image.heap, records, address);
+    let room = shown.expect("a granted buffer is shown").bytes.len();
     let offset = sequence.below(room + 1);
     let bytes = if sequence.once_in(2) {
         let fill = word_bytes(image.order(), FREE_FILL);
@@ -178,6 +182,7 @@ fn store_some(image: &mut Image, address: u32, sequence: &mut Sequence) {
         sequence.bytes(length)
     };
     store(
+        profile,
         &image.sheet,
         &mut image.heap,
         &image.records,
@@ -196,23 +201,25 @@ fn pair_anew(image: &mut Image, sequence: &mut Sequence) {
     if !sequence.once_in(8) {
         sequence.shuffle(&mut places);
     }
-    let moved = |address: u32| match shape.record_at(address) {
-        Some(record) => shape.record_address(places[record]),
+    let record_size = image.record_size();
+    let moved = |image: &Image, address: u32| match image.record_at(address) {
+        Some(record) => image.record_address(places[record]),
         None => address,
     };
 
-    image.put_head(moved(image.head()));
+    image.put_head(moved(image, image.head()));
     let order = image.order();
     let old_records = image.records.clone();
-    for (old, &place) in old_records.chunks_exact(RECORD_SIZE).zip(&places) {
-        let start = place * RECORD_SIZE;
-        image.records[start..start + RECORD_SIZE].copy_from_slice(old);
-        image.put_record_word(start + NEXT, moved(word(order, old, NEXT)));
+    for (old, &place) in old_records.chunks_exact(record_size).zip(&places) {
+        let start = place * record_size;
+        image.records[start..start + record_size].copy_from_slice(old);
+        let next = moved(image, word(order, old, NEXT));
+        image.put_record_word(start + NEXT, next);
     }
     for buffer in 0..shape.count {
         let (t0, t1) = (image.t0(buffer), image.t1(buffer));
         let tag = image.tag(buffer);
-        let own_record = moved(image.heap_word(t0));
+        let own_record = moved(image, image.heap_word(t0));
         image.put_heap_word(t0, own_record);
         image.put_heap_word(t1, own_record ^ tag);
     }
@@ -220,9 +227,9 @@ fn pair_anew(image: &mut Image, sequence: &mut Sequence) {
 
 /// Puts any words where no rule reads: slab, cache, thread and all that follow.
 fn fill_unread_words(image: &mut Image, sequence: &mut Sequence) {
-    let order = image.order();
-    for record in image.records.chunks_exact_mut(RECORD_SIZE) {
-        for at in [8, 12].into_iter().chain((24..RECORD_SIZE).step_by(4)) {
+    let (order, record_size) = (image.order(), image.record_size());
+    for record in image.records.chunks_exact_mut(record_size) {
+        for at in [8, 12].into_iter().chain((24..record_size).step_by(4)) {
             put_word(order, record, at, sequence.word());
         }
     }
@@ -244,9 +251,9 @@ fn some_row(image: &Image, sequence: &mut Sequence) -> Vec<u8> {
     let record = sequence.below(image.shape.count);
     let named = match sequence.below(16) {
         0 => sequence.word(),
-        1 => image.shape.record_address(record) + 4,
+        1 => image.record_address(record) + 4,
         2 => image.shape.buffer_address(record),
-        _ => image.shape.record_address(record),
+        _ => image.record_address(record),
     };
     let uptime = match sequence.below(16) {
         0 => sequence.word(),

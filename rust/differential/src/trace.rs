@@ -1,14 +1,17 @@
 //! The calls of the traced program, `crates/call_trace`, made on the reference. Each
 //! answer is a line; the head of that program's `main.rt` says how a line is written.
-//! All calls are made twice, each time on areas of zeros: first with the high byte first
-//! and then with the low one.
+//! All calls are made four times, each time on areas of zeros: under the kernel profile and
+//! then under userland, and under each first with the high byte first and then with the low
+//! one. Two requests are the profile's own, such that their coded sizes are 20 and 24 under
+//! both.
 
 use reference::{
-    allocate, free, inspect, latest, lay_out, show, store, Finding, Grant, Latest, Order, Refusal,
-    Verdict, SHEET_LENGTH,
+    allocate, free, inspect, latest, lay_out, show, store, Finding, Grant, Latest, Order, Profile,
+    Refusal, Shown, Verdict, SHEET_LENGTH,
 };
 
-use crate::image::{RECORD_SIZE, ROW_SIZE};
+use crate::image::ROW_SIZE;
+use crate::profile::record_size;
 use crate::words::{word, word_bytes};
 
 const CACHE: u32 = 0x7003_9928;
@@ -21,15 +24,34 @@ const FIRST: u32 = HEAP_BASE;
 const SECOND: u32 = HEAP_BASE + 40;
 const THIRD: u32 = HEAP_BASE + 80;
 
-/// The guard byte of the first buffer, whose grant is 20 bytes.
+/// The guard byte of the first buffer, whose coded size is 20.
 const GUARD: usize = 20;
 
-/// The log's rows: record address, uptime, thread, kind.
-const LOG: [[u32; 4]; 3] = [
-    [RECORD_BASE, 150, 7, 1],
-    [RECORD_BASE + 96, 450, 8, 2],
-    [RECORD_BASE, 110, 9, 1],
-];
+/// The request whose coded size is 20.
+fn some(profile: Profile) -> Grant {
+    match profile {
+        Profile::Kernel => Grant::Sized(20),
+        Profile::Userland => Grant::Sized(12),
+    }
+}
+
+/// The request whose coded size is 24, the buffer's.
+fn full(profile: Profile) -> Grant {
+    match profile {
+        Profile::Kernel => Grant::Sized(24),
+        Profile::Userland => Grant::Sized(16),
+    }
+}
+
+/// The log's rows, of records 0, 1 and 0: record address, uptime, thread, kind.
+fn log(profile: Profile) -> [[u32; 4]; 3] {
+    let second = RECORD_BASE + record_size(profile) as u32;
+    [
+        [RECORD_BASE, 150, 7, 1],
+        [second, 450, 8, 2],
+        [RECORD_BASE, 110, 9, 1],
+    ]
+}
 
 /// What stands in a lent row of findings before an inspection.
 const BLANK: Finding = Finding {
@@ -39,30 +61,43 @@ const BLANK: Finding = Finding {
 
 /// An image, its log, and the lines of the calls made on it.
 struct Trace {
+    profile: Profile,
     order: Order,
     sheet: [u8; SHEET_LENGTH],
     heap: [u8; 120],
-    records: [u8; 3 * RECORD_SIZE],
+    records: Vec<u8>,
     log: Vec<u8>,
     lines: String,
 }
 
-/// All lines, those of each order behind a line of its own.
+/// The formats, each by the line that its lines stand behind.
+const FORMATS: [(&str, Profile, Order); 4] = [
+    ("kernel high", Profile::Kernel, Order::HighFirst),
+    ("kernel low", Profile::Kernel, Order::LowFirst),
+    ("userland high", Profile::Userland, Order::HighFirst),
+    ("userland low", Profile::Userland, Order::LowFirst),
+];
+
+/// All lines.
 pub fn trace() -> String {
-    let high = trace_in(Order::HighFirst);
-    let low = trace_in(Order::LowFirst);
-    format!("order high\n{high}order low\n{low}")
+    let blocks = FORMATS.map(|(name, profile, order)| {
+        let lines = trace_in(profile, order);
+        format!("{name}\n{lines}")
+    });
+    blocks.concat()
 }
 
-/// The lines of all calls in one order.
-fn trace_in(order: Order) -> String {
-    let log = LOG.as_flattened().iter();
+/// The lines of all calls in one format.
+fn trace_in(profile: Profile, order: Order) -> String {
+    let log = log(profile);
+    let log = log.as_flattened().iter();
     let log = log.flat_map(|word| word_bytes(order, *word));
     let mut trace = Trace {
+        profile,
         order,
         sheet: [0; SHEET_LENGTH],
         heap: [0; 120],
-        records: [0; 3 * RECORD_SIZE],
+        records: vec![0; 3 * record_size(profile)],
         log: log.collect(),
         lines: String::new(),
     };
@@ -80,7 +115,7 @@ impl Trace {
         self.inspect();
         self.lay_out();
         self.inspect();
-        self.allocate(Grant::Sized(20), 100, 7);
+        self.allocate(some(self.profile), 100, 7);
         self.allocate(Grant::Whole, 200, 8);
         self.allocate(Grant::Sized(25), 250, 9);
         self.allocate(Grant::Sized(0), 250, 9);
@@ -88,6 +123,7 @@ impl Trace {
 
     fn store_and_show(&mut self) {
         self.store(FIRST, 0, b"relay");
+        self.store(FIRST, 10, b"end");
         self.store(FIRST, 18, b"end");
         self.store(SECOND, 20, b"tail");
         self.store(SECOND, 24, b"");
@@ -96,10 +132,13 @@ impl Trace {
     }
 
     fn fill_and_free(&mut self) {
-        self.allocate(Grant::Sized(24), 300, 7);
+        self.allocate(full(self.profile), 300, 7);
         self.allocate(Grant::Whole, 400, 9);
+        self.allocate(Grant::Sized(17), 400, 9);
         self.inspect();
         self.free(FIRST, Grant::Whole, 500, 7);
+        self.free(FIRST, Grant::Sized(28), 500, 7);
+        self.free(THIRD, Grant::Sized(24), 500, 7);
         self.free(SECOND, Grant::Whole, 500, 8);
         self.free(SECOND, Grant::Whole, 600, 8);
         self.show(SECOND);
@@ -119,20 +158,31 @@ impl Trace {
         self.read_byte(HEAP_BASE + 119);
         self.read_byte(HEAP_BASE + 120);
         self.read_byte(HEAP_BASE - 1);
+        self.read_word(FIRST);
+        self.read_word(FIRST + 4);
         self.read_word(THIRD + 24);
         self.read_word(HEAP_BASE + 116);
         self.read_word(HEAP_BASE + 117);
-        let found = lent_part(&self.records, RECORD_BASE, RECORD_BASE + 100, 4);
+        let found = lent_part(&self.records, RECORD_BASE, RECORD_BASE + 104, 4);
         let found = found.map(|bytes| word(self.order, bytes, 0));
         self.line("word", &number_or_none(found));
     }
 
+    /// The guard byte, and then the fourth byte of the buffer, which is the header's in
+    /// userland.
     fn hurt(&mut self) {
         self.heap[GUARD] = 0;
+        self.use_hurt();
+        self.heap[GUARD] = 0xbb;
+        self.heap[3] = 0x55;
+        self.use_hurt();
+    }
+
+    fn use_hurt(&mut self) {
         self.inspect();
         self.show(FIRST);
         self.store(FIRST, 0, b"late");
-        self.free(FIRST, Grant::Sized(20), 700, 7);
+        self.free(FIRST, some(self.profile), 700, 7);
         self.allocate(Grant::Sized(1), 800, 7);
         self.inspect();
     }
@@ -143,6 +193,7 @@ impl Trace {
 
     fn lay_out(&mut self) {
         let answer = lay_out(
+            self.profile,
             self.order,
             CACHE,
             HEAP_BASE,
@@ -158,28 +209,33 @@ impl Trace {
 
     fn allocate(&mut self, grant: Grant, uptime: u32, thread: u32) {
         let (sheet, heap, records) = (&mut self.sheet, &mut self.heap, &mut self.records);
-        let answer = allocate(sheet, heap, records, grant, uptime, thread);
+        let answer = allocate(self.profile, sheet, heap, records, grant, uptime, thread);
         self.line("allocate", &told(answer, |address| format!(" {address}")));
     }
 
     fn free(&mut self, address: u32, grant: Grant, uptime: u32, thread: u32) {
         let (sheet, heap, records) = (&mut self.sheet, &mut self.heap, &mut self.records);
-        let answer = free(sheet, heap, records, address, grant, uptime, thread);
+        let profile = self.profile;
+        let answer = free(
+            profile, sheet, heap, records, address, grant, uptime, thread,
+        );
         self.line("free", &outcome(answer));
     }
 
     fn store(&mut self, address: u32, offset: u32, bytes: &[u8]) {
         let (sheet, heap, records) = (&self.sheet, &mut self.heap, &self.records);
-        let answer = store(sheet, heap, records, address, offset, bytes);
+        let answer = store(self.profile, sheet, heap, records, address, offset, bytes);
         self.line("store", &outcome(answer));
     }
 
-    /// The client's bytes start where the buffer does.
+    /// Where the buffer starts in the heap and the client's bytes in the buffer, and how
+    /// many they are.
     fn show(&mut self, address: u32) {
-        let answer = show(&self.sheet, &self.heap, &self.records, address);
-        let part = numbers(answer.unwrap_or_default());
-        let place = told(answer, |part| {
-            format!(" {} {}", address - HEAP_BASE, part.len())
+        let (sheet, heap, records) = (&self.sheet, &self.heap, &self.records);
+        let answer = show(self.profile, sheet, heap, records, address);
+        let part = numbers(answer.map_or(&[], |shown| shown.bytes));
+        let place = told(answer, |Shown { offset, bytes }| {
+            format!(" {} {offset} {}", address - HEAP_BASE, bytes.len())
         });
         self.line("find_client", &place);
         self.line("show", &part);
@@ -187,10 +243,11 @@ impl Trace {
 
     fn latest(&mut self, index: u32, now: u32) {
         let (sheet, heap, records) = (&self.sheet, &self.heap, &self.records);
-        let answer = latest(sheet, heap, records, &self.log, index, now);
+        let answer = latest(self.profile, sheet, heap, records, &self.log, index, now);
+        let record_size = record_size(self.profile);
         let part = match answer {
             Ok(Latest::Row(row)) => &self.log[row * ROW_SIZE..][..ROW_SIZE],
-            Ok(Latest::Record(record)) => &self.records[record * RECORD_SIZE..][..RECORD_SIZE],
+            Ok(Latest::Record(record)) => &self.records[record * record_size..][..record_size],
             Err(_) => &[],
         };
         let part = numbers(part);
@@ -204,7 +261,8 @@ impl Trace {
 
     fn inspect(&mut self) {
         let mut rows = [BLANK; 4];
-        let answer = inspect(&self.sheet, &self.heap, &self.records, &mut rows);
+        let (sheet, heap, records) = (&self.sheet, &self.heap, &self.records);
+        let answer = inspect(self.profile, sheet, heap, records, &mut rows);
         self.line("inspect", &told(answer, |count| format!(" {count}")));
         for Finding { index, verdict } in rows {
             let (number, value) = (verdict.number(), verdict.value());

@@ -1,6 +1,7 @@
 /*
  * Reads the dump's image, behind one byte with the length of its sheet, and writes what each
- * declared function answers and fills; the calls, in both orders.
+ * declared function answers and fills; the calls, in both orders, and under the userland
+ * profile too.
  */
 #include <inttypes.h>
 #include <stdio.h>
@@ -61,11 +62,11 @@ static void put_word(uint8_t *place, uint32_t word)
         place[at] = (uint8_t)(word >> 8 * (low_first ? at : 3 - at));
 }
 
-static void area_lengths(size_t length, size_t room)
+static void area_lengths(bool userland, size_t length, size_t room)
 {
     uint32_t lengths[3] = {7, 7, 7};
 
-    print_answer("area lengths", cg_area_lengths(image, length, lengths, room));
+    print_answer("area lengths", cg_area_lengths(userland, image, length, lengths, room));
     print_numbers("lengths", lengths, 3);
 }
 
@@ -75,8 +76,8 @@ static void survey(size_t log_length, size_t rows_room, size_t chain_room)
     uint32_t rows[ROWS] = {7, 7, 7, 7, 7, 7, 7, 7, 7, 7};
     uint32_t chain[4] = {7, 7, 7, 7};
 
-    print_answer("survey", cg_survey(image, sheet_length, heap, HEAP, records, RECORDS, log,
-                                     log_length, rows, rows_room, chain, chain_room));
+    print_answer("survey", cg_survey(false, image, sheet_length, heap, HEAP, records, RECORDS,
+                                     log, log_length, rows, rows_room, chain, chain_room));
     print_numbers("rows", rows, ROWS);
     print_numbers("chain", chain, 4);
 }
@@ -84,9 +85,10 @@ static void survey(size_t log_length, size_t rows_room, size_t chain_room)
 /* Both read the dump, with every refusal, and the survey its chain with every ending. */
 static void read_dump(void)
 {
-    area_lengths(sheet_length, 3);
-    area_lengths(sheet_length, 1);
-    area_lengths(sheet_length - 1, 1);
+    area_lengths(false, sheet_length, 3);
+    area_lengths(true, sheet_length, 3);
+    area_lengths(false, sheet_length, 1);
+    area_lengths(false, sheet_length - 1, 1);
     survey(16, ROWS, 4);
     survey(0, ROWS - 2, 4);
     survey(0, ROWS, 2);
@@ -100,7 +102,7 @@ static void read_dump(void)
     put_word(records, 0);
 
     image[FLAGS_END] ^= 1;
-    area_lengths(sheet_length, 1);
+    area_lengths(false, sheet_length, 1);
     survey(15, ROWS, 4);
     image[0] = 2;
     survey(15, ROWS, 4);
@@ -115,19 +117,21 @@ static void judge_dump(void)
     uint8_t output[OUTPUT] = {0};
     uint32_t at;
 
-    print_answer("inspect", cg_inspect(image, sheet_length, heap, HEAP, records, RECORDS, rows,
-                                       ROWS));
+    print_answer("inspect", cg_inspect(false, image, sheet_length, heap, HEAP, records, RECORDS,
+                                       rows, ROWS));
     print_numbers("rows", rows, ROWS);
-    print_answer("inspect", cg_inspect(image, sheet_length, heap, HEAP, records, RECORDS, rows,
-                                       8));
+    print_answer("inspect", cg_inspect(false, image, sheet_length, heap, HEAP, records, RECORDS,
+                                       rows, 8));
+    print_answer("inspect", cg_inspect(true, image, sheet_length, heap, HEAP, records, RECORDS,
+                                       rows, ROWS));
     put_word(row, 0x70ae3200);
     for (at = 0; at < 4; at++)
-        print_answer("latest", cg_latest(image, sheet_length, heap, HEAP, records, RECORDS, row,
-                                         sizeof row, at, 5));
-    print_answer("report", cg_report(image, sheet_length, heap, HEAP, records, RECORDS, row, 0,
-                                     output, 63));
-    print_answer("report", cg_report(image, sheet_length, heap, HEAP, records, RECORDS, row, 0,
-                                     output, OUTPUT));
+        print_answer("latest", cg_latest(false, image, sheet_length, heap, HEAP, records,
+                                         RECORDS, row, sizeof row, at, 5));
+    print_answer("report", cg_report(false, image, sheet_length, heap, HEAP, records, RECORDS,
+                                     row, 0, output, 63));
+    print_answer("report", cg_report(false, image, sheet_length, heap, HEAP, records, RECORDS,
+                                     row, 0, output, OUTPUT));
     fputs((const char *)output, stdout);
 }
 
@@ -140,27 +144,28 @@ static uint8_t fresh_records[RECORDS];
 
 static void lay_out(bool low, size_t length, uint32_t size)
 {
-    print_answer("lay out", cg_lay_out(low, 0x11223344, BASE, 0x2000, size, 3, fresh_sheet,
-                                       length, fresh_heap, FRESH_HEAP, fresh_records, RECORDS));
+    print_answer("lay out", cg_lay_out(false, low, 0x11223344, BASE, 0x2000, size, 3,
+                                       fresh_sheet, length, fresh_heap, FRESH_HEAP,
+                                       fresh_records, RECORDS));
 }
 
 static void allocate(bool whole, uint32_t size)
 {
-    print_answer("allocate", cg_allocate(fresh_sheet, SHEET, fresh_heap, FRESH_HEAP,
+    print_answer("allocate", cg_allocate(false, fresh_sheet, SHEET, fresh_heap, FRESH_HEAP,
                                          fresh_records, RECORDS, whole, size, 0x11, 0x22));
 }
 
 static void take_back(uint32_t address, bool whole, uint32_t size)
 {
-    print_answer("free", cg_free(fresh_sheet, SHEET, fresh_heap, FRESH_HEAP, fresh_records,
-                                 RECORDS, address, whole, size, 0x33, 0x44));
+    print_answer("free", cg_free(false, fresh_sheet, SHEET, fresh_heap, FRESH_HEAP,
+                                 fresh_records, RECORDS, address, whole, size, 0x33, 0x44));
 }
 
 static void store(uint32_t address, uint32_t offset, const char *text)
 {
-    print_answer("store", cg_store(fresh_sheet, SHEET, fresh_heap, FRESH_HEAP, fresh_records,
-                                   RECORDS, address, offset, (const uint8_t *)text,
-                                   strlen(text)));
+    print_answer("store", cg_store(false, fresh_sheet, SHEET, fresh_heap, FRESH_HEAP,
+                                   fresh_records, RECORDS, address, offset,
+                                   (const uint8_t *)text, strlen(text)));
 }
 
 static void print_bytes(const uint8_t *bytes, uint32_t count)
@@ -174,8 +179,8 @@ static void print_bytes(const uint8_t *bytes, uint32_t count)
 
 static void show(uint32_t address)
 {
-    uint64_t answer = cg_show(fresh_sheet, SHEET, fresh_heap, FRESH_HEAP, fresh_records, RECORDS,
-                              address);
+    uint64_t answer = cg_show(false, fresh_sheet, SHEET, fresh_heap, FRESH_HEAP, fresh_records,
+                              RECORDS, address);
 
     print_answer("show", answer);
     print_bytes(fresh_heap + (address - BASE), cg_value(answer));
@@ -213,6 +218,105 @@ static void make_calls(bool low)
     show(BASE + 2 * STEP);
 }
 
+/* Three buffers of 24 bytes under the userland profile. */
+enum {
+    USERLAND_RECORDS = 3 * CG_USERLAND_RECORD_LENGTH,
+    USERLAND_STEP = 40,
+    HEADER = 8
+};
+
+static uint8_t userland_heap[HEAP];
+static uint8_t userland_records[USERLAND_RECORDS];
+
+static void userland_lay_out(bool low, size_t records_length)
+{
+    print_answer("lay out", cg_lay_out(true, low, 0x11223344, BASE, 0x2000, 24, 3, fresh_sheet,
+                                       SHEET, userland_heap, HEAP, userland_records,
+                                       records_length));
+}
+
+static void userland_allocate(bool whole, uint32_t size)
+{
+    print_answer("allocate", cg_allocate(true, fresh_sheet, SHEET, userland_heap, HEAP,
+                                         userland_records, USERLAND_RECORDS, whole, size, 0x11,
+                                         0x22));
+}
+
+static void userland_free(uint32_t size)
+{
+    print_answer("free", cg_free(true, fresh_sheet, SHEET, userland_heap, HEAP,
+                                 userland_records, USERLAND_RECORDS, BASE, false, size, 0x33,
+                                 0x44));
+}
+
+static void userland_store(uint32_t offset, const char *text)
+{
+    print_answer("store", cg_store(true, fresh_sheet, SHEET, userland_heap, HEAP,
+                                   userland_records, USERLAND_RECORDS, BASE, offset,
+                                   (const uint8_t *)text, strlen(text)));
+}
+
+static void userland_show(uint32_t address)
+{
+    uint64_t answer = cg_show(true, fresh_sheet, SHEET, userland_heap, HEAP, userland_records,
+                              USERLAND_RECORDS, address);
+
+    print_answer("show", answer);
+    printf("start %u\n", (unsigned)cg_start(answer));
+    print_bytes(userland_heap + (address - BASE) + cg_start(answer), cg_value(answer));
+}
+
+/* What is found of the three buffers and of the chain. */
+static void userland_read(void)
+{
+    const uint8_t log[1] = {0};
+    uint32_t rows[ROWS] = {7, 7, 7, 7, 7, 7, 7, 7, 7, 7};
+    uint32_t chain[4] = {7, 7, 7, 7};
+    uint8_t output[2 * OUTPUT];
+    uint64_t answer;
+
+    print_answer("inspect", cg_inspect(true, fresh_sheet, SHEET, userland_heap, HEAP,
+                                       userland_records, USERLAND_RECORDS, rows, ROWS));
+    print_numbers("rows", rows, ROWS);
+    print_answer("survey", cg_survey(true, fresh_sheet, SHEET, userland_heap, HEAP,
+                                     userland_records, USERLAND_RECORDS, log, 0, rows, ROWS,
+                                     chain, 4));
+    print_numbers("chain", chain, 4);
+    print_answer("latest", cg_latest(true, fresh_sheet, SHEET, userland_heap, HEAP,
+                                     userland_records, USERLAND_RECORDS, log, 0, 2, 0x40));
+    answer = cg_report(true, fresh_sheet, SHEET, userland_heap, HEAP, userland_records,
+                       USERLAND_RECORDS, log, 0, output, sizeof output);
+    print_answer("report", answer);
+    fwrite(output, 1, cg_value(answer), stdout);
+}
+
+/* Every call under the userland profile, accepted and refused. */
+static void make_userland_calls(bool low)
+{
+    userland_lay_out(low, RECORDS);
+    userland_lay_out(low, USERLAND_RECORDS);
+    userland_allocate(false, 0);
+    userland_allocate(false, 17);
+    userland_allocate(false, 10);
+    print_bytes(userland_heap, 20);
+    userland_allocate(true, 0);
+    userland_allocate(false, 16);
+    print_bytes(userland_heap + 2 * USERLAND_STEP + 24, 8);
+    userland_store(0, "abcd");
+    userland_store(7, "abcd");
+    userland_show(BASE);
+    userland_show(BASE + USERLAND_STEP);
+    userland_free(18);
+    userland_heap[HEADER - 1] ^= 1;
+    userland_read();
+    userland_show(BASE);
+    userland_store(0, "");
+    userland_free(10);
+    userland_heap[HEADER - 1] ^= 1;
+    userland_free(10);
+    userland_read();
+}
+
 int main(void)
 {
     if (!read_image())
@@ -221,5 +325,7 @@ int main(void)
     judge_dump();
     make_calls(false);
     make_calls(true);
+    make_userland_calls(false);
+    make_userland_calls(true);
     return 0;
 }

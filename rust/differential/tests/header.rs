@@ -6,13 +6,15 @@ use std::path::{Path, PathBuf};
 use std::process::Command;
 
 /// The lengths of the dump's areas, 3 x (24 + 16) and 3 x 96, and a number past them
-/// that stays 7; room for one only; a sheet one byte too short. Its survey, with a number past the
+/// that stays 7; under the userland profile 3 x 100 for the records; room for one only; a
+/// sheet one byte too short. Its survey, with a number past the
 /// rows and one past the chain; room for too few rows, for too little of the chain, and
 /// for either, but first a log of 15 bytes. The chain meets record 2 and then record 0,
 /// whose next word leads to no record, and then back to record 2, which names buffer 0.
 /// Wrong flags, and then a wrong tag as well.
 const DUMP: &str = "\
 area lengths 0 0 0\nlengths 120 288 7
+area lengths 0 0 0\nlengths 120 300 7
 area lengths 11 0 0\nlengths 7 7 7
 area lengths 1 0 0\nlengths 7 7 7
 survey 0 0 3\nrows 0 0 0 1 2 20 2 0 0 7\nchain 2 0 0 7
@@ -26,12 +28,14 @@ survey 2 0 0\nrows 7 7 7 7 7 7 7 7 7 7\nchain 7 7 7 7
 survey 1 0 0\nrows 7 7 7 7 7 7 7 7 7 7\nchain 7 7 7 7
 ";
 
-/// The dump's findings; room for too few; the latest transactions of its buffers, of
+/// The dump's findings; room for too few; records of a wrong length under the userland
+/// profile; the latest transactions of its buffers, of
 /// which the log has one row for the record of buffer 1, and of a buffer too many; room
 /// for too little; the report. All this is the same in every form.
 const FOUND: &str = "\
 inspect 0 0 3\nrows 0 0 0 1 2 20 2 0 0 0
 inspect 11 0 0
+inspect 3 0 0
 latest 0 0 2147483650
 latest 0 0 0
 latest 0 0 2147483648
@@ -107,6 +111,73 @@ allocate 0 0 4120\n bb fa ed fe d9 07 00 00
 show 7 28 0\n
 ";
 
+/// The calls on a fresh userland image that is high-first: a lay out with records of 96
+/// bytes, and one with records of 100; the buffers at 4096, 4136 and 4176 granted with 10
+/// bytes, whole, and with 16, the most there is, after sizes of 0 and one too large; of the
+/// first, header, fill and the guard at 18; of the third, the redzone words, 0xbb before the
+/// rest of 0xfeedface and 251 x 24 + 1; four bytes stored at the client's first, and four that
+/// pass its last; where both clients' bytes start, and the bytes; the first given back by its
+/// coded size. Then its header is hurt, which every reader and call finds, and mended.
+const USERLAND_HIGH: &str = "\
+lay out 3 0 0
+lay out 0 0 0
+allocate 6 0 0
+allocate 6 0 0
+allocate 0 0 4096\n 00 00 00 12 3a 10 bf ee ba dd ca fe ba dd ca fe ba dd bb fe
+allocate 0 0 4136
+allocate 0 0 4176\n bb ed fa ce 00 00 17 89
+store 0 0 0
+store 10 0 0
+show 0 0 10\nstart 8\n 61 62 63 64 ba dd ca fe ba dd
+show 0 0 24\nstart 0\n ba dd ca fe ba dd ca fe ba dd ca fe ba dd ca fe ba dd ca fe ba dd ca fe
+free 9 0 0
+";
+
+/// The same, low-first.
+const USERLAND_LOW: &str = "\
+lay out 3 0 0
+lay out 0 0 0
+allocate 6 0 0
+allocate 6 0 0
+allocate 0 0 4096\n 12 00 00 00 ee bf 10 3a fe ca dd ba fe ca dd ba fe ca bb ba
+allocate 0 0 4136
+allocate 0 0 4176\n bb fa ed fe 89 17 00 00
+store 0 0 0
+store 10 0 0
+show 0 0 10\nstart 8\n 61 62 63 64 fe ca dd ba fe ca
+show 0 0 24\nstart 0\n fe ca dd ba fe ca dd ba fe ca dd ba fe ca dd ba fe ca dd ba fe ca dd ba
+free 9 0 0
+";
+
+/// What is found once the header is hurt, and once it is mended and the buffer given back,
+/// in either order. The latest is that of the third buffer, by its record.
+const USERLAND_FOUND: &str = "\
+inspect 0 0 3\nrows 0 30 0 1 1 0 2 2 16 7
+survey 0 0 3\nchain 0 0 0 7
+latest 0 0 2147483650
+report 0 0 69
+heap report 1
+0 fault 30
+1 whole
+2 allocated 16
+chain 0 end
+faults 1
+show 7 30 0\nstart 0\n
+store 7 30 0
+free 7 30 0
+free 0 0 0
+inspect 0 0 3\nrows 0 0 0 1 1 0 2 2 16 7
+survey 0 0 3\nchain 1 0 0 7
+latest 0 0 2147483650
+report 0 0 65
+heap report 1
+0 free
+1 whole
+2 allocated 16
+chain 1 end
+faults 0
+";
+
 /// The program, compiled with every warning an error.
 fn compiled() -> PathBuf {
     let package = Path::new(env!("CARGO_MANIFEST_DIR"));
@@ -132,6 +203,18 @@ fn compiled() -> PathBuf {
     program
 }
 
+/// All that it writes.
+const EXPECTED: [&str; 8] = [
+    DUMP,
+    FOUND,
+    HIGH,
+    LOW,
+    USERLAND_HIGH,
+    USERLAND_FOUND,
+    USERLAND_LOW,
+    USERLAND_FOUND,
+];
+
 /// The dump's words say the same in the short form and low-first.
 #[test]
 fn program_in_c() {
@@ -146,7 +229,7 @@ fn program_in_c() {
         assert!(output.status.success(), "{name}");
         assert_eq!(
             String::from_utf8_lossy(&output.stdout),
-            [DUMP, FOUND, HIGH, LOW].concat(),
+            EXPECTED.concat(),
             "{name}"
         );
     }

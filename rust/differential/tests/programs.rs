@@ -1,5 +1,5 @@
 //! The verified report program and the reference's write the same, byte for byte, in
-//! every form of the sheet.
+//! every form of the sheet. Both know the kernel profile alone, and read every image by it.
 
 use std::collections::BTreeMap;
 use std::fs;
@@ -10,7 +10,7 @@ use std::thread;
 use std::time::{Duration, Instant};
 
 use differential::samples::dump;
-use differential::{put_sheet_word, Case, Form, FORMS};
+use differential::{put_sheet_word, Case, Form, FORMS, KERNEL_FORMS, PROFILES};
 
 const CASES: u64 = 1_000;
 const SEED: u64 = 0x58f0_21b7;
@@ -113,7 +113,7 @@ const DUMP_REPORT: &str = include_str!("../../../samples/dump.expected");
 /// that ends early makes the sheet (1) or an area (3) wrong."
 #[test]
 fn dump_cut_at_every_place() {
-    for form in FORMS {
+    for form in KERNEL_FORMS {
         let mut image = dump(form);
         image.log = vec![1; 32];
         let input = image.input();
@@ -140,7 +140,7 @@ fn every_length_byte() {
     for byte in 0..=255 {
         let story = format!("length byte {byte} alone");
         assert_eq!(compare_input(vec![byte], &story), "refused 1\n", "{story}");
-        for form in FORMS {
+        for form in KERNEL_FORMS {
             let mut input = dump(form).input();
             input.resize(input.len() + 256, 0);
             input[0] = byte;
@@ -159,7 +159,7 @@ fn every_length_byte() {
 
 #[test]
 fn logs_of_every_kind_of_length() {
-    for form in FORMS {
+    for form in KERNEL_FORMS {
         for length in [
             0, 1, 15, 16, 17, 16_368, 16_383, 16_384, 16_385, 16_400, 40_000,
         ] {
@@ -174,15 +174,19 @@ fn logs_of_every_kind_of_length() {
     }
 }
 
+/// Those of the userland profile too: what their records are longer by is taken for the
+/// start of the log.
 #[test]
 fn hurt_images() {
     let mut counts: BTreeMap<(String, Form), usize> = BTreeMap::new();
-    for number in 0..CASES {
-        let (case, _) = Case::new(SEED, number);
-        let text = compare_input(case.image.input(), &case.to_string());
-        let first_line = text.lines().next().expect("a line");
-        let met = (String::from(first_line), case.image.read_form());
-        *counts.entry(met).or_default() += 1;
+    for profile in PROFILES {
+        for number in 0..CASES {
+            let (case, _) = Case::new(profile, SEED, number);
+            let text = compare_input(case.image.input(), &case.to_string());
+            let first_line = text.lines().next().expect("a line");
+            let met = (String::from(first_line), case.image.read_form());
+            *counts.entry(met).or_default() += 1;
+        }
     }
     println!("programs, hurt images, seed {SEED:#x}");
     for ((line, form), count) in &counts {
@@ -199,7 +203,7 @@ fn hurt_images() {
 /// A pipe hands over what it has, so a program must ask again for the rest.
 #[test]
 fn input_in_small_pieces() {
-    for form in FORMS {
+    for form in KERNEL_FORMS {
         let mut image = dump(form);
         image.log = vec![3; 48];
         let input = image.input();
@@ -223,7 +227,7 @@ fn input_in_small_pieces() {
 fn endless_input() {
     compare_endless(Vec::new(), "refused 1\n");
     compare_endless(vec![255], "refused 1\n");
-    for form in FORMS {
+    for form in KERNEL_FORMS {
         let sheet_length = vec![form.sheet_length() as u8];
         let sheet = dump(form).sheet;
         let mut unlawful = sheet.clone();

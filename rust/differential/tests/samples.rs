@@ -4,7 +4,7 @@
 use std::fs;
 use std::path::Path;
 
-use differential::samples::stored_samples;
+use differential::samples::{from_hex, stored_samples};
 use differential::stored;
 use reference::program;
 
@@ -16,18 +16,6 @@ fn stored(name: &str) -> Vec<u8> {
 
 fn sample(name: &str) -> Vec<u8> {
     stored(&format!("samples/{name}"))
-}
-
-/// Bytes written in hexadecimal, with a comment behind each `#`.
-fn from_hex(text: &[u8]) -> Vec<u8> {
-    let text = String::from_utf8_lossy(text);
-    let code = text.lines().filter_map(|line| line.split('#').next());
-    let digits = code
-        .flat_map(str::chars)
-        .filter_map(|sign| sign.to_digit(16));
-    let digits: Vec<u8> = digits.map(|digit| digit as u8).collect();
-    let bytes = digits.chunks(2).map(|pair| pair[0] * 16 + pair[1]);
-    bytes.collect()
 }
 
 #[test]
@@ -61,7 +49,8 @@ fn reports_of_the_images_in_hexadecimal() {
         ("hurt_low", "hurt"),
     ];
     for (name, expected) in samples {
-        let found = program(&from_hex(&sample(&format!("{name}.hex"))));
+        let text = sample(&format!("{name}.hex"));
+        let found = program(&from_hex(&String::from_utf8_lossy(&text)));
         assert_eq!(found, sample(&format!("{expected}.expected")), "{name}");
     }
 }

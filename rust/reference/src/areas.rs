@@ -1,7 +1,8 @@
 //! The heap and record areas with their sheet, and which addresses lie in them.
 
 use crate::chunk::Chunk;
-use crate::record::{ADDRESS_AT, MOST_LOG_BYTES, RECORD_SIZE, ROW_SIZE, STAMP_AT};
+use crate::profile::Profile;
+use crate::record::{ADDRESS_AT, MOST_LOG_BYTES, ROW_SIZE, STAMP_AT};
 use crate::refusal::Refusal;
 use crate::sheet::Sheet;
 use crate::words::{long, word};
@@ -15,8 +16,13 @@ pub struct Areas<'a> {
 
 impl<'a> Areas<'a> {
     /// "Order: 1, 2, 3 always", where no log is given.
-    pub fn read(sheet: &[u8], heap: &'a [u8], records: &'a [u8]) -> Result<Areas<'a>, Refusal> {
-        let sheet = Sheet::read(sheet)?;
+    pub fn read(
+        profile: Profile,
+        sheet: &[u8],
+        heap: &'a [u8],
+        records: &'a [u8],
+    ) -> Result<Areas<'a>, Refusal> {
+        let sheet = Sheet::read(profile, sheet)?;
         if heap.len() != sheet.heap_length() || records.len() != sheet.record_length() {
             return Err(Refusal::plain(3));
         }
@@ -29,12 +35,13 @@ impl<'a> Areas<'a> {
 
     /// "3 tests the log where one is given": "log not a multiple of 16 or over 16,384".
     pub fn read_with_log(
+        profile: Profile,
         sheet: &[u8],
         heap: &'a [u8],
         records: &'a [u8],
         log: &[u8],
     ) -> Result<Areas<'a>, Refusal> {
-        let areas = Areas::read(sheet, heap, records)?;
+        let areas = Areas::read(profile, sheet, heap, records)?;
         if !log.len().is_multiple_of(ROW_SIZE) || log.len() > MOST_LOG_BYTES {
             return Err(Refusal::plain(3));
         }
@@ -53,7 +60,7 @@ impl<'a> Areas<'a> {
 
     /// The address of record `index`.
     pub fn record_address(&self, index: usize) -> u32 {
-        self.sheet.record_base + RECORD_SIZE as u32 * index as u32
+        self.sheet.record_address(index as u32)
     }
 
     /// The buffer that starts at an address, if one does.
@@ -63,7 +70,11 @@ impl<'a> Areas<'a> {
 
     /// The record that starts at an address, if one does.
     pub fn record_at(&self, address: u32) -> Option<usize> {
-        self.index_of(address, self.sheet.record_base, RECORD_SIZE as u32)
+        self.index_of(
+            address,
+            self.sheet.record_base,
+            self.sheet.profile.record_size(),
+        )
     }
 
     /// Which of the n parts, `step` bytes each from `base` on, starts at an address.
@@ -79,21 +90,24 @@ impl<'a> Areas<'a> {
         let chunk_size = self.sheet.chunk_size as usize;
         let start = index * chunk_size;
         let bytes = &self.heap[start..start + chunk_size];
-        Chunk::new(self.sheet.order, bytes, self.sheet.size as usize)
+        Chunk::new(
+            self.sheet.profile,
+            self.sheet.order,
+            bytes,
+            self.sheet.size as usize,
+        )
     }
 
     /// The word at an offset in record `index`.
     pub fn record_word(&self, index: usize, at: usize) -> u32 {
-        word(self.sheet.order, self.records, index * RECORD_SIZE + at)
+        let start = index * self.sheet.record_size();
+        word(self.sheet.order, self.records, start + at)
     }
 
     /// The timestamp of record `index`, "as one eight-byte number".
     pub fn record_stamp(&self, index: usize) -> u64 {
-        long(
-            self.sheet.order,
-            self.records,
-            index * RECORD_SIZE + STAMP_AT,
-        )
+        let start = index * self.sheet.record_size();
+        long(self.sheet.order, self.records, start + STAMP_AT)
     }
 
     /// The buffer that record `index` names by its address word, if it names one.

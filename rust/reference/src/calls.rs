@@ -1,8 +1,11 @@
 //! The calls: lay out, allocate, free, store and show.
 
+use std::ops::Range;
+
 use crate::areas::Areas;
 use crate::chunk::{write_free, write_granted, Grant, Pattern};
-use crate::record::{ADDRESS_AT, CACHE_AT, NEXT_AT, RECORD_SIZE, STAMP_AT, THREAD_AT};
+use crate::profile::Profile;
+use crate::record::{ADDRESS_AT, CACHE_AT, NEXT_AT, STAMP_AT, THREAD_AT};
 use crate::refusal::Refusal;
 use crate::sheet::{put_head, Sheet, FLAGS, SHEET_LENGTH};
 use crate::verdict::Verdict;
@@ -13,6 +16,7 @@ use crate::words::{put_long, put_word, Order};
 /// "Lay out takes the order and always writes 52 bytes, with refusal 1 for a sheet
 /// area of any other length." Then refusal "2 on its arguments", then 3.
 pub fn lay_out(
+    profile: Profile,
     order: Order,
     cache: u32,
     heap_base: u32,
@@ -36,6 +40,7 @@ pub fn lay_out(
         head: record_base,
         flags: FLAGS,
         order,
+        profile,
     };
     if !numbers.obeys_limits() {
         return Err(Refusal::plain(2));
@@ -53,7 +58,7 @@ pub fn lay_out(
 fn lay_out_chunks(numbers: &Sheet, heap: &mut [u8]) {
     let chunks = heap.chunks_exact_mut(numbers.chunk_size as usize);
     for (index, chunk) in (0..numbers.count).zip(chunks) {
-        let record_address = numbers.record_base + index * RECORD_SIZE as u32;
+        let record_address = numbers.record_address(index);
         write_free(numbers.order, chunk, numbers.size as usize, record_address);
     }
 }
@@ -61,12 +66,13 @@ fn lay_out_chunks(numbers: &Sheet, heap: &mut [u8]) {
 /// "Each record holds next, address and cache, all else 0."
 fn lay_out_records(numbers: &Sheet, records: &mut [u8]) {
     records.fill(0);
-    for (index, record) in (0..numbers.count).zip(records.chunks_exact_mut(RECORD_SIZE)) {
+    let records = records.chunks_exact_mut(numbers.record_size());
+    for (index, record) in (0..numbers.count).zip(records) {
         let is_last = index + 1 == numbers.count;
         let next = if is_last {
             0
         } else {
-            numbers.record_base + (index + 1) * RECORD_SIZE as u32
+            numbers.record_address(index + 1)
         };
         put_word(numbers.order, record, NEXT_AT, next);
         put_word(
@@ -88,6 +94,7 @@ struct Pair {
 /// "Allocate takes the head record, answers its buffer's address, and the head
 /// becomes its next word." "A granted record's next word stays."
 pub fn allocate(
+    profile: Profile,
     sheet: &mut [u8],
     heap: &mut [u8],
     records: &mut [u8],
@@ -95,7 +102,7 @@ pub fn allocate(
     uptime: u32,
     thread: u32,
 ) -> Result<u32, Refusal> {
-    let areas = Areas::read(sheet, heap, records)?;
+    let areas = Areas::read(profile, sheet, heap, records)?;
     let Pair { record, buffer } = free_head(&areas, grant)?;
     let order = areas.sheet.order;
     let head = areas.sheet.head;
@@ -103,9 +110,11 @@ pub fn allocate(
     let address = areas.buffer_address(buffer);
     let size = areas.sheet.size as usize;
     let chunk_size = areas.sheet.chunk_size as usize;
+    let record_size = areas.sheet.record_size();
 
-    write_granted(order, part(heap, buffer, chunk_size), size, head, grant);
-    stamp(order, part(records, record, RECORD_SIZE), uptime, thread);
+    let chunk = part(heap, buffer, chunk_size);
+    write_granted(profile, order, chunk, size, head, grant);
+    stamp(order, part(records, record, record_size), uptime, thread);
     put_head(sheet, next);
     Ok(address)
 }
@@ -114,8 +123,8 @@ pub fn allocate(
 /// (29), its address word no buffer (20), T0 not the head or neither pattern (21),
 /// allocated pattern (24), fill (25), redzone (26)."
 fn free_head(areas: &Areas, grant: Grant) -> Result<Pair, Refusal> {
-    if let Grant::Sized(s) = grant {
-        if s == 0 || s > areas.sheet.size {
+    if let Grant::Sized(request) = grant {
+        if !areas.sheet.is_lawful_request(request) {
             return Err(Refusal::plain(6));
         }
     }
@@ -141,8 +150,10 @@ fn free_head(areas: &Areas, grant: Grant) -> Result<Pair, Refusal> {
 }
 
 /// "Free refills the buffer, restores redzone and tag, puts the old head in next,
-/// and its record becomes the head." Refusal 9: "size or whole differs from the grant".
+/// and its record becomes the head." Refusal 9: "size or whole differs from the grant";
+/// "verdict 2 and free name the request".
 pub fn free(
+    profile: Profile,
     sheet: &mut [u8],
     heap: &mut [u8],
     records: &mut [u8],
@@ -151,7 +162,7 @@ pub fn free(
     uptime: u32,
     thread: u32,
 ) -> Result<(), Refusal> {
-    let areas = Areas::read(sheet, heap, records)?;
+    let areas = Areas::read(profile, sheet, heap, records)?;
     let (Pair { record, buffer }, granted) = granted_buffer(&areas, address)?;
     if grant != granted {
         return Err(Refusal::plain(9));
@@ -161,9 +172,10 @@ pub fn free(
     let record_address = areas.record_address(record);
     let size = areas.sheet.size as usize;
     let chunk_size = areas.sheet.chunk_size as usize;
+    let record_size = areas.sheet.record_size();
 
     write_free(order, part(heap, buffer, chunk_size), size, record_address);
-    let record = part(records, record, RECORD_SIZE);
+    let record = part(records, record, record_size);
     put_word(order, record, NEXT_AT, old_head);
     stamp(order, record, uptime, thread);
     put_head(sheet, record_address);
@@ -171,8 +183,10 @@ pub fn free(
 }
 
 /// "Store writes bytes at an offset in an allocated buffer." Refusal 10: "offset
-/// plus length passes the client's bytes".
+/// plus length passes the client's bytes". The offset counts from the first of these:
+/// "store and show speak of the bytes after the header".
 pub fn store(
+    profile: Profile,
     sheet: &[u8],
     heap: &mut [u8],
     records: &[u8],
@@ -180,34 +194,48 @@ pub fn store(
     offset: u32,
     bytes: &[u8],
 ) -> Result<(), Refusal> {
-    let areas = Areas::read(sheet, heap, records)?;
+    let areas = Areas::read(profile, sheet, heap, records)?;
     let (Pair { buffer, .. }, granted) = granted_buffer(&areas, address)?;
-    let length = client_length(&areas, granted);
-    if u64::from(offset) + bytes.len() as u64 > length as u64 {
+    let client = client_bytes(&areas, granted);
+    if u64::from(offset) + bytes.len() as u64 > client.len() as u64 {
         return Err(Refusal::plain(10));
     }
-    let start = buffer * areas.sheet.chunk_size as usize + offset as usize;
+    let buffer_start = buffer * areas.sheet.chunk_size as usize;
+    let start = buffer_start + client.start + offset as usize;
     heap[start..start + bytes.len()].copy_from_slice(bytes);
     Ok(())
 }
 
+/// What show hands back: the client's own bytes, and the offset in the buffer at which
+/// they start.
+#[derive(Clone, Copy, PartialEq, Eq, Debug)]
+pub struct Shown<'a> {
+    pub offset: u32,
+    pub bytes: &'a [u8],
+}
+
 /// "Show hands back the client's own bytes as a part of the heap: the first s, or
-/// all when whole."
+/// all when whole." "Store and show speak of the bytes after the header."
 pub fn show<'a>(
+    profile: Profile,
     sheet: &[u8],
     heap: &'a [u8],
     records: &[u8],
     address: u32,
-) -> Result<&'a [u8], Refusal> {
-    let areas = Areas::read(sheet, heap, records)?;
+) -> Result<Shown<'a>, Refusal> {
+    let areas = Areas::read(profile, sheet, heap, records)?;
     let (Pair { buffer, .. }, granted) = granted_buffer(&areas, address)?;
-    let start = buffer * areas.sheet.chunk_size as usize;
-    Ok(&heap[start..start + client_length(&areas, granted)])
+    let client = client_bytes(&areas, granted);
+    let buffer_start = buffer * areas.sheet.chunk_size as usize;
+    Ok(Shown {
+        offset: client.start as u32,
+        bytes: &heap[buffer_start + client.start..buffer_start + client.end],
+    })
 }
 
 /// The granted buffer at an address, with its grant. "Free, store, show: 4; 7 with
 /// 21 if T0 names no record, that record doesn't name this buffer, or neither
-/// pattern; 8; 7 with 27 or 28."
+/// pattern; 8; 7 with 27 or 28", or with 30, "a possible detail of refusal 7".
 fn granted_buffer(areas: &Areas, address: u32) -> Result<(Pair, Grant), Refusal> {
     let buffer = areas.buffer_at(address).ok_or(Refusal::plain(4))?;
     let chunk = areas.chunk(buffer);
@@ -223,16 +251,20 @@ fn granted_buffer(areas: &Areas, address: u32) -> Result<(Pair, Grant), Refusal>
     let pair = Pair { record, buffer };
     match chunk.judge_allocated() {
         Verdict::Whole => Ok((pair, Grant::Whole)),
-        Verdict::Allocated(s) => Ok((pair, Grant::Sized(s))),
+        Verdict::Allocated(request) => Ok((pair, Grant::Sized(request))),
         fault => Err(Refusal::damage(fault.number() as u8)),
     }
 }
 
-/// How many bytes are the client's own: "the first s, or all when whole".
-fn client_length(areas: &Areas, granted: Grant) -> usize {
+/// Where in the buffer the client's own bytes stand: the first s of "the bytes after the
+/// header", "or all when whole", since "whole grants have none".
+fn client_bytes(areas: &Areas, granted: Grant) -> Range<usize> {
     match granted {
-        Grant::Whole => areas.sheet.size as usize,
-        Grant::Sized(s) => s as usize,
+        Grant::Whole => 0..areas.sheet.size as usize,
+        Grant::Sized(request) => {
+            let start = areas.sheet.profile.header_length();
+            start as usize..(start + request) as usize
+        }
     }
 }
 

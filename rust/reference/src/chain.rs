@@ -1,6 +1,7 @@
 //! The chain of free records.
 
 use crate::areas::Areas;
+use crate::profile::Profile;
 use crate::record::NEXT_AT;
 use crate::refusal::Refusal;
 
@@ -21,8 +22,13 @@ pub struct Chain {
 }
 
 /// The chain of an image, or refusal 1, 2 or 3.
-pub fn chain(sheet: &[u8], heap: &[u8], records: &[u8]) -> Result<Chain, Refusal> {
-    Ok(walk(&Areas::read(sheet, heap, records)?))
+pub fn chain(
+    profile: Profile,
+    sheet: &[u8],
+    heap: &[u8],
+    records: &[u8],
+) -> Result<Chain, Refusal> {
+    Ok(walk(&Areas::read(profile, sheet, heap, records)?))
 }
 
 /// "It starts at the head. It ends at 0, is broken at a word that is no record's

@@ -1,6 +1,7 @@
 //! One chunk: "buffer bytes; then redzone words R0 and R1; then T0, the record's
 //! address, and T1". How it is written and how it is judged by itself.
 
+use crate::profile::Profile;
 use crate::verdict::Verdict;
 use crate::words::{put_word, word, word_bytes, Order};
 
@@ -23,24 +24,30 @@ const REDZONE: u32 = 0xfeed_face;
 /// The guard is one byte at its offset, whatever the order.
 const GUARD: u8 = 0xbb;
 
-/// What was granted: the whole buffer, or so many bytes of it.
+/// What was granted: the whole buffer, or as many bytes of it as the client's request.
 #[derive(Clone, Copy, PartialEq, Eq, Debug)]
 pub enum Grant {
     Whole,
     Sized(u32),
 }
 
-/// The bytes of one chunk, its buffer size and the order of its words.
+/// The bytes of one chunk, its buffer size, the order of its words and its profile.
 #[derive(Clone, Copy)]
 pub struct Chunk<'a> {
+    profile: Profile,
     order: Order,
     bytes: &'a [u8],
     size: usize,
 }
 
 impl<'a> Chunk<'a> {
-    pub fn new(order: Order, bytes: &'a [u8], size: usize) -> Chunk<'a> {
-        Chunk { order, bytes, size }
+    pub fn new(profile: Profile, order: Order, bytes: &'a [u8], size: usize) -> Chunk<'a> {
+        Chunk {
+            profile,
+            order,
+            bytes,
+            size,
+        }
     }
 
     fn r0(&self) -> &'a [u8] {
@@ -100,9 +107,9 @@ impl<'a> Chunk<'a> {
     }
 
     /// "Then s = R1/251: 28 at s if that byte isn't 0xbb; else 28 at R0's first
-    /// byte that differs from fe ed fa ce (with bb first when s is buffer size);
-    /// else 2, allocated s." With the low byte first these are ce fa ed fe, and "a
-    /// full-size grant's R0 word reads 0xfeedfabb".
+    /// byte that differs from fe ed fa ce (with bb first when s is buffer size)"; the
+    /// header is judged after that. With the low byte first these are ce fa ed fe, and
+    /// "a full-size grant's R0 word reads 0xfeedfabb".
     fn judge_sized(&self) -> Verdict {
         let Some(s) = coded_size(self.r1(), self.size) else {
             return Verdict::BadSizeCode;
@@ -116,7 +123,21 @@ impl<'a> Chunk<'a> {
         }
         match first_difference(self.r0(), wanted) {
             Some(offset) => Verdict::GuardDiffers((self.size + offset) as u32),
-            None => Verdict::Allocated(s as u32),
+            None => self.judge_header(s as u32),
+        }
+    }
+
+    /// "New verdict 30, header wrong, comes after 28 and before 2, and also when the
+    /// coded size is below 9." "Verdict 2 and free name the request": the coded size less
+    /// the header's length. Without a header no coded size is too small and none wrong.
+    fn judge_header(&self, coded_size: u32) -> Verdict {
+        let length = self.profile.header_length();
+        let is_sound = coded_size > length
+            && self.bytes[..length as usize] == self.profile.header(self.order, coded_size);
+        if is_sound {
+            Verdict::Allocated(coded_size - length)
+        } else {
+            Verdict::BadHeader
         }
     }
 }
@@ -157,8 +178,11 @@ pub fn write_free(order: Order, chunk: &mut [u8], size: usize, record_address: u
 }
 
 /// "Granted: the buffer is first filled with ba dd ca fe. A whole grant keeps both
-/// redzone words. A grant of s bytes puts 0xbb at offset s and 251*s+1 in R1."
+/// redzone words. A grant of s bytes puts 0xbb at offset s and 251*s+1 in R1." Here s is
+/// the coded size, and "the first 8 buffer bytes are a header" where the profile has one;
+/// "whole grants have none".
 pub fn write_granted(
+    profile: Profile,
     order: Order,
     chunk: &mut [u8],
     size: usize,
@@ -166,7 +190,10 @@ pub fn write_granted(
     grant: Grant,
 ) {
     fill(order, &mut chunk[..size], GRANTED_FILL);
-    if let Grant::Sized(s) = grant {
+    if let Grant::Sized(request) = grant {
+        let s = request + profile.header_length();
+        let header = profile.header(order, s);
+        chunk[..header.len()].copy_from_slice(&header);
         chunk[s as usize] = GUARD;
         put_word(order, chunk, size + 4, 251 * s + 1);
     }

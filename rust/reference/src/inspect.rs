@@ -3,6 +3,7 @@
 use crate::areas::Areas;
 use crate::chain::{walk, Chain, Ending};
 use crate::chunk::Pattern;
+use crate::profile::Profile;
 use crate::refusal::Refusal;
 use crate::verdict::Verdict;
 
@@ -16,12 +17,13 @@ pub struct Finding {
 /// "Inspect fills a lent row of findings, one record per buffer, rows past n
 /// untouched." Answers n. Refusals 1, 2, 3, then 11.
 pub fn inspect(
+    profile: Profile,
     sheet: &[u8],
     heap: &[u8],
     records: &[u8],
     rows: &mut [Finding],
 ) -> Result<usize, Refusal> {
-    let areas = Areas::read(sheet, heap, records)?;
+    let areas = Areas::read(profile, sheet, heap, records)?;
     if rows.len() < areas.count() {
         return Err(Refusal::plain(11));
     }

@@ -1,6 +1,7 @@
 //! The latest transaction of a buffer.
 
 use crate::areas::Areas;
+use crate::profile::Profile;
 use crate::record::ROW_SIZE;
 use crate::refusal::Refusal;
 use crate::words::word;
@@ -16,6 +17,7 @@ pub enum Latest {
 /// a row wins over the record and a later row over an earlier."
 /// Refusals 1, 2, 3, then "4, 7 with 20, 12".
 pub fn latest(
+    profile: Profile,
     sheet: &[u8],
     heap: &[u8],
     records: &[u8],
@@ -23,7 +25,7 @@ pub fn latest(
     index: u32,
     now: u32,
 ) -> Result<Latest, Refusal> {
-    let areas = Areas::read_with_log(sheet, heap, records, log)?;
+    let areas = Areas::read_with_log(profile, sheet, heap, records, log)?;
     if index >= areas.sheet.count {
         return Err(Refusal::plain(4));
     }

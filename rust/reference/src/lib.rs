@@ -2,7 +2,8 @@
 //!
 //! This is the second program the document compares others with: each function
 //! follows a sentence of the document and names it. No public function panics,
-//! whatever its arguments are; a refused call changes no byte lent to it.
+//! whatever its arguments are; a refused call changes no byte lent to it. The caller
+//! names the profile of an image in every call that reads or writes one.
 
 mod areas;
 mod calls;
@@ -10,6 +11,7 @@ mod chain;
 mod chunk;
 mod inspect;
 mod latest;
+mod profile;
 mod program;
 mod record;
 mod refusal;
@@ -18,11 +20,12 @@ mod sheet;
 mod verdict;
 mod words;
 
-pub use calls::{allocate, free, lay_out, show, store};
+pub use calls::{allocate, free, lay_out, show, store, Shown};
 pub use chain::{chain, Chain, Ending};
 pub use chunk::Grant;
 pub use inspect::{inspect, Finding};
 pub use latest::{latest, Latest};
+pub use profile::Profile;
 pub use program::program;
 pub use refusal::Refusal;
 pub use report::{report, report_text};

@@ -5,9 +5,9 @@ use std::io::{self, Read, Write};
 
 use reference::{program, SHEET_LENGTH};
 
-/// One length byte, the longest sheet, heap and record area, and one byte more than
-/// the longest log. Input that goes on beyond this has a log too long even so, or is
-/// refused for its sheet, so no more of it is read.
+/// One length byte, the longest sheet, heap and record area of the program's profile,
+/// and one byte more than the longest log. Input that goes on beyond this has a log too
+/// long even so, or is refused for its sheet, so no more of it is read.
 const MOST_INPUT: usize = 1 + SHEET_LENGTH + 65_536 + 512 * 96 + 16_384 + 1;
 
 fn main() -> io::Result<()> {

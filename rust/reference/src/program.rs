@@ -1,8 +1,12 @@
 //! The report program: what it writes for what it reads.
 
+use crate::profile::Profile;
 use crate::refusal::Refusal;
 use crate::report::report_text;
 use crate::sheet::area_lengths;
+
+/// "The program keeps the old one."
+const PROFILE: Profile = Profile::Kernel;
 
 /// What the program writes to standard output for a given standard input: the
 /// report, or "`refused N` and a line feed".
@@ -18,10 +22,10 @@ pub fn program(input: &[u8]) -> Vec<u8> {
 /// heap, records and then log". "All that follows the records is the log."
 fn answer(input: &[u8]) -> Result<String, Refusal> {
     let (sheet, rest) = split_sheet(input).ok_or(Refusal::plain(1))?;
-    let (heap_length, record_length) = area_lengths(sheet)?;
+    let (heap_length, record_length) = area_lengths(PROFILE, sheet)?;
     let (heap, rest) = split_area(rest, heap_length);
     let (records, log) = split_area(rest, record_length);
-    report_text(sheet, heap, records, log)
+    report_text(PROFILE, sheet, heap, records, log)
 }
 
 /// The sheet by its length byte, and what follows it. "Input that ends early makes

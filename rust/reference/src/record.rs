@@ -1,7 +1,4 @@
-//! How long a record and a log row are, and where a record's words stand.
-
-/// "n records of 96 bytes."
-pub const RECORD_SIZE: usize = 96;
+//! Where a record's words stand, under either profile, and how long a log row is.
 
 /// Where a record's words stand: "next at 0, buffer address 4, slab 8, cache 12,
 /// timestamp 16 (eight bytes), thread 24".

@@ -3,19 +3,21 @@
 use crate::areas::Areas;
 use crate::chain::{walk, Chain, Ending};
 use crate::inspect::judge;
+use crate::profile::Profile;
 use crate::refusal::Refusal;
 use crate::verdict::Verdict;
 
 /// "The call answers the length filled; output past it stays."
 /// Refusals 1, 2, 3, then 11, "output shorter than the exact need".
 pub fn report(
+    profile: Profile,
     sheet: &[u8],
     heap: &[u8],
     records: &[u8],
     log: &[u8],
     output: &mut [u8],
 ) -> Result<usize, Refusal> {
-    let text = report_text(sheet, heap, records, log)?;
+    let text = report_text(profile, sheet, heap, records, log)?;
     if output.len() < text.len() {
         return Err(Refusal::plain(11));
     }
@@ -25,12 +27,13 @@ pub fn report(
 
 /// The whole report, "one line per item", or refusal 1, 2 or 3.
 pub fn report_text(
+    profile: Profile,
     sheet: &[u8],
     heap: &[u8],
     records: &[u8],
     log: &[u8],
 ) -> Result<String, Refusal> {
-    let areas = Areas::read_with_log(sheet, heap, records, log)?;
+    let areas = Areas::read_with_log(profile, sheet, heap, records, log)?;
     let chain = walk(&areas);
     let verdicts = judge(&areas, &chain);
     let faults = verdicts.iter().filter(|verdict| is_fault(**verdict));

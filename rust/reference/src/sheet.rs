@@ -1,6 +1,6 @@
 //! The sheet: 48 or 52 bytes of tagged fields, and the limits on their numbers.
 
-use crate::record::RECORD_SIZE;
+use crate::profile::Profile;
 use crate::refusal::Refusal;
 use crate::words::{put_word, Order};
 
@@ -31,7 +31,8 @@ const FIELDS: [(u8, u16); 9] = [
     (9, 1),
 ];
 
-/// The numbers of the fields, by their tags from 1 on.
+/// The numbers of the fields, by their tags from 1 on, and the profile they are read
+/// under.
 #[derive(Clone, Copy)]
 pub struct Sheet {
     pub cache: u32,
@@ -43,14 +44,15 @@ pub struct Sheet {
     pub head: u32,
     pub flags: u32,
     pub order: Order,
+    pub profile: Profile,
 }
 
 impl Sheet {
     /// Refusal 1, the sheet has "neither form", then refusal 2, "a sheet number
     /// breaks a limit or a rule", or tag 9 has "other values" than 0 and 1.
-    pub fn read(bytes: &[u8]) -> Result<Sheet, Refusal> {
+    pub fn read(profile: Profile, bytes: &[u8]) -> Result<Sheet, Refusal> {
         let numbers = read_fields(bytes).ok_or(Refusal::plain(1))?;
-        let sheet = Sheet::from_numbers(numbers).ok_or(Refusal::plain(2))?;
+        let sheet = Sheet::from_numbers(profile, numbers).ok_or(Refusal::plain(2))?;
         if !sheet.obeys_limits() {
             return Err(Refusal::plain(2));
         }
@@ -58,7 +60,7 @@ impl Sheet {
     }
 
     /// The numbers by name; none if the last means no order.
-    fn from_numbers(numbers: [u32; 9]) -> Option<Sheet> {
+    fn from_numbers(profile: Profile, numbers: [u32; 9]) -> Option<Sheet> {
         let [cache, heap_base, record_base, size, chunk_size, count, head, flags, order] = numbers;
         Some(Sheet {
             cache,
@@ -70,6 +72,7 @@ impl Sheet {
             head,
             flags,
             order: Order::from_number(order)?,
+            profile,
         })
     }
 
@@ -88,7 +91,7 @@ impl Sheet {
             return false;
         }
         let heap_length = count * chunk_size;
-        let record_length = count * RECORD_SIZE as u64;
+        let record_length = count * u64::from(self.profile.record_size());
         heap_length <= 65_536
             && self.flags == FLAGS
             && base_is_lawful(heap_base, heap_length)
@@ -101,9 +104,25 @@ impl Sheet {
         self.count as usize * self.chunk_size as usize
     }
 
-    /// "The record area is n records of 96 bytes."
+    /// "The record area is n records" of the profile's length.
     pub fn record_length(&self) -> usize {
-        self.count as usize * RECORD_SIZE
+        self.count as usize * self.record_size()
+    }
+
+    /// How many bytes a record has.
+    pub fn record_size(&self) -> usize {
+        self.profile.record_size() as usize
+    }
+
+    /// The address of record `index`, below n.
+    pub fn record_address(&self, index: u32) -> u32 {
+        self.record_base + index * self.profile.record_size()
+    }
+
+    /// Whether an allocate may ask for so many bytes: "1 to buffer size", or "requests
+    /// run from 1 to buffer size less 8".
+    pub fn is_lawful_request(&self, request: u32) -> bool {
+        (1..=self.size - self.profile.header_length()).contains(&request)
     }
 
     /// Writes the nine fields over 52 bytes. "Sheet fields stay big-endian."
@@ -172,12 +191,14 @@ fn share_no_address(base: u64, length: u64, other_base: u64, other_length: u64) 
 }
 
 /// The lengths a sheet gives its heap area and its record area, or refusal 1 or 2.
-pub fn area_lengths(sheet: &[u8]) -> Result<(usize, usize), Refusal> {
-    let sheet = Sheet::read(sheet)?;
+pub fn area_lengths(profile: Profile, sheet: &[u8]) -> Result<(usize, usize), Refusal> {
+    let sheet = Sheet::read(profile, sheet)?;
     Ok((sheet.heap_length(), sheet.record_length()))
 }
 
-/// The order a sheet gives the words of its areas, or refusal 1 or 2.
+/// The order a sheet gives the words of its areas, or refusal 1 or 2. It is 2 where
+/// the sheet is lawful under neither profile: the kernel profile's records are the
+/// shorter, so it takes every sheet the other takes.
 pub fn sheet_order(sheet: &[u8]) -> Result<Order, Refusal> {
-    Ok(Sheet::read(sheet)?.order)
+    Ok(Sheet::read(Profile::Kernel, sheet)?.order)
 }

@@ -8,7 +8,7 @@ pub enum Verdict {
     Free,
     /// 1: allocated whole.
     Whole,
-    /// 2: allocated, with the size.
+    /// 2: allocated, with the size: "verdict 2 and free name the request".
     Allocated(u32),
     /// 20: not exactly one record names it.
     NotNamedOnce,
@@ -28,6 +28,8 @@ pub enum Verdict {
     BadSizeCode,
     /// 28: the guard byte or R0 of an allocated buffer differs, with the offset.
     GuardDiffers(u32),
+    /// 30: "header wrong", or the coded size leaves the client no byte after it.
+    BadHeader,
 }
 
 impl Verdict {
@@ -46,6 +48,7 @@ impl Verdict {
             Verdict::RedzoneDiffers(_) => 26,
             Verdict::BadSizeCode => 27,
             Verdict::GuardDiffers(_) => 28,
+            Verdict::BadHeader => 30,
         }
     }
 

@@ -1,5 +1,5 @@
-//! Inspect, the latest transaction, allocate and free in plain C. Each answers as the
-//! library's call does.
+//! Inspect, the latest transaction, allocate and free in plain C, for the kernel profile.
+//! Each answers as the library's call does.
 
 use crate::ffi;
 

@@ -2,7 +2,7 @@
 use mathlib.Core.Path.{sym, _∙_}
 use native.Mathlib.Omega.{arith}
 use borrow.Author.Needs.{needs}
-use Rattle.geometry.proofs.Sheets.{sizes-known}
+use Rattle.geometry.proofs.Sheets.{sizes-known, records-small}
 use Rattle.geometry.specs.Limits.{lawful, SizesOf}
 use Rattle.lawful.proofs.is_lawful.Statement.{statement}
 use Rattle.lawful.proofs.is_lawful.Tie as tie
@@ -13,10 +13,11 @@ sized c = sizes-known _ _ _ _ (sym (c .before .sizes-lawful .ensures) ∙ c .if1
 
 bases-lawful-requires : tie.Need-bases-lawful-requires
 bases-lawful-requires c κs =
-    let k = sized (c .before .before .before .before) in
+    let t = c .before .before .before .before in
+    let k = sized t in
     let h = c .before .heap-length .ensures in
     let r = c .records-length .ensures in
-    omega arith
+    omega (arith, records-small (t .before .before .args .g) k)
 
 returns : tie.Need-returns
 unfolding lawful

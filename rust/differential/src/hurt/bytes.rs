@@ -27,7 +27,7 @@ pub fn flip(image: &mut Image, sequence: &mut Sequence) {
 pub fn misplace_words(image: &mut Image, sequence: &mut Sequence) {
     let (shape, order) = (image.shape, image.order());
     for _ in 0..sequence.between(1, 8) {
-        let record = shape.record_address(sequence.below(shape.count));
+        let record = image.record_address(sequence.below(shape.count));
         let buffer = shape.buffer_address(sequence.below(shape.count));
         let code = 251 * sequence.below(shape.size + 2) as u32 + 1;
         let word = sequence.pick(&[
@@ -95,7 +95,7 @@ fn cut(image: &mut Image, sequence: &mut Sequence) {
     bytes.truncate(sequence.below(bytes.len() + 1));
     image.sheet = split_off(&mut bytes, image.form.sheet_length());
     image.heap = split_off(&mut bytes, image.shape.heap_length());
-    image.records = split_off(&mut bytes, image.shape.record_length());
+    image.records = split_off(&mut bytes, image.record_length());
     image.log = bytes;
 }
 

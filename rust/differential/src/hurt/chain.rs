@@ -3,12 +3,12 @@
 use reference::chain;
 
 use super::no_record;
-use crate::image::{NEXT, RECORD_SIZE};
+use crate::image::NEXT;
 use crate::{Image, Sequence};
 
 /// The records met by the chain as it is, none for an image that is refused.
 fn met(image: &Image) -> Vec<usize> {
-    match chain(&image.sheet, &image.heap, &image.records) {
+    match chain(image.profile(), &image.sheet, &image.heap, &image.records) {
         Ok(chain) => chain.met,
         Err(_) => Vec::new(),
     }
@@ -24,11 +24,11 @@ fn some_met(image: &Image, sequence: &mut Sequence) -> usize {
 }
 
 fn put_next(image: &mut Image, record: usize, next: u32) {
-    image.put_record_word(record * RECORD_SIZE + NEXT, next);
+    image.put_record_word(image.record(record) + NEXT, next);
 }
 
 fn next(image: &Image, record: usize) -> u32 {
-    image.record_word(record * RECORD_SIZE + NEXT)
+    image.record_word(image.record(record) + NEXT)
 }
 
 pub fn cut(image: &mut Image, sequence: &mut Sequence) {
@@ -38,15 +38,15 @@ pub fn cut(image: &mut Image, sequence: &mut Sequence) {
 
 /// The chain, or its head, leads to an address where no record starts.
 pub fn leave_records(image: &mut Image, sequence: &mut Sequence) {
-    let target = no_record(image.shape, sequence);
+    let target = no_record(image, sequence);
     lead_to(image, target, sequence);
 }
 
 /// The chain leads into a record, past its start.
 pub fn miss_start(image: &mut Image, sequence: &mut Sequence) {
     let record = sequence.below(image.shape.count);
-    let inside = sequence.between(1, RECORD_SIZE - 1) as u32;
-    let target = image.shape.record_address(record) + inside;
+    let inside = sequence.between(1, image.record_size() - 1) as u32;
+    let target = image.record_address(record) + inside;
     lead_to(image, target, sequence);
 }
 
@@ -62,7 +62,7 @@ fn lead_to(image: &mut Image, target: u32, sequence: &mut Sequence) {
 
 pub fn loop_to_self(image: &mut Image, sequence: &mut Sequence) {
     let record = some_met(image, sequence);
-    put_next(image, record, image.shape.record_address(record));
+    put_next(image, record, image.record_address(record));
 }
 
 /// The last record met leads back to some record met: the first, one in the middle,
@@ -72,7 +72,7 @@ pub fn loop_back(image: &mut Image, sequence: &mut Sequence) {
         return;
     };
     let back = some_met(image, sequence);
-    put_next(image, last, image.shape.record_address(back));
+    put_next(image, last, image.record_address(back));
 }
 
 pub fn empty(image: &mut Image, _: &mut Sequence) {
@@ -82,7 +82,7 @@ pub fn empty(image: &mut Image, _: &mut Sequence) {
 /// The chain starts at another record, allocated or free.
 pub fn change_head(image: &mut Image, sequence: &mut Sequence) {
     let record = sequence.below(image.shape.count);
-    let address = image.shape.record_address(record);
+    let address = image.record_address(record);
     image.put_head(address);
 }
 
@@ -110,7 +110,7 @@ pub fn add_allocated(image: &mut Image, sequence: &mut Sequence) {
         return;
     }
     let added = sequence.pick(&missing);
-    let address = image.shape.record_address(added);
+    let address = image.record_address(added);
     let after = match sequence.below(met.len() + 1).checked_sub(1) {
         None => {
             let old_head = image.head();

@@ -21,7 +21,7 @@ fn some_tagged(image: &Image, tag: u32, sequence: &mut Sequence) -> usize {
 
 /// T0 is any word or another record's address; the xor is then neither pattern.
 pub fn change_t0(image: &mut Image, sequence: &mut Sequence) {
-    let other = image.shape.record_address(some_buffer(image, sequence));
+    let other = image.record_address(some_buffer(image, sequence));
     let any = sequence.word();
     let t0 = image.t0(some_buffer(image, sequence));
     image.put_heap_word(t0, sequence.pick(&[0, any, other]));
@@ -31,7 +31,7 @@ pub fn change_t0(image: &mut Image, sequence: &mut Sequence) {
 pub fn tag_with_other_record(image: &mut Image, sequence: &mut Sequence) {
     let buffer = some_buffer(image, sequence);
     let tag = image.tag(buffer);
-    let record = image.shape.record_address(some_buffer(image, sequence));
+    let record = image.record_address(some_buffer(image, sequence));
     let named = sequence.pick(&[record, record + 4, 0, image.shape.heap_base]);
     let (t0, t1) = (image.t0(buffer), image.t1(buffer));
     image.put_heap_word(t0, named);
@@ -88,7 +88,7 @@ pub fn change_granted_redzone(image: &mut Image, sequence: &mut Sequence) {
 }
 
 /// The code of the full size, with R0 as that grant leaves it and in other ways, among
-/// them turned.
+/// them turned, and mostly with its header.
 pub fn grant_full_size(image: &mut Image, sequence: &mut Sequence) {
     let buffer = some_tagged(image, ALLOCATED_TAG, sequence);
     let bit = 1 << sequence.below(32);
@@ -97,7 +97,11 @@ pub fn grant_full_size(image: &mut Image, sequence: &mut Sequence) {
     let r0 = sequence.pick(&[full, full, full, REDZONE, full ^ bit, others]);
     let (r0_at, r1_at) = (image.r0(buffer), image.r1(buffer));
     image.put_heap_word(r0_at, r0);
-    image.put_heap_word(r1_at, 251 * image.shape.size as u32 + 1);
+    let size = image.shape.size as u32;
+    image.put_heap_word(r1_at, 251 * size + 1);
+    if !sequence.once_in(4) {
+        image.put_header(buffer, size);
+    }
 }
 
 /// R1 is a code of size 0, of a size too large, of a wrong remainder, of another size,
@@ -113,32 +117,26 @@ pub fn change_size_code(image: &mut Image, sequence: &mut Sequence) {
     image.put_heap_word(at, r1);
 }
 
-/// The size that R1 codes, or the buffer size where it codes none.
-fn coded_size(image: &Image, buffer: usize) -> usize {
-    let size = image.heap_word(image.r1(buffer)) as usize / 251;
-    size.min(image.shape.size)
-}
-
 pub fn change_guard(image: &mut Image, sequence: &mut Sequence) {
     let buffer = some_tagged(image, ALLOCATED_TAG, sequence);
-    let guard = image.buffer(buffer) + coded_size(image, buffer);
+    let guard = image.buffer(buffer) + image.coded_size(buffer);
     change_byte(&mut image.heap, guard, sequence.byte());
 }
 
 /// This must not make the buffer free.
 pub fn store_fill(image: &mut Image, sequence: &mut Sequence) {
     let buffer = some_tagged(image, ALLOCATED_TAG, sequence);
-    let start = image.buffer(buffer);
+    let client = image.client(buffer);
+    let start = image.buffer(buffer) + client.start;
     let fill = word_bytes(image.order(), FREE_FILL).repeat(image.shape.size / 4);
-    let length = coded_size(image, buffer);
-    put_bytes(&mut image.heap, start, &fill[..length]);
+    put_bytes(&mut image.heap, start, &fill[..client.len()]);
 }
 
 /// "Bytes strictly between guard and redzone are not judged."
 pub fn change_unjudged(image: &mut Image, sequence: &mut Sequence) {
     let buffer = some_tagged(image, ALLOCATED_TAG, sequence);
     let start = image.buffer(buffer);
-    for offset in coded_size(image, buffer) + 1..image.shape.size {
+    for offset in image.coded_size(buffer) + 1..image.shape.size {
         put_bytes(&mut image.heap, start + offset, &[sequence.byte()]);
     }
 }

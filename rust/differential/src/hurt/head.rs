@@ -1,30 +1,30 @@
 //! The chain's first record and its buffer.
 
 use super::{no_buffer, no_record};
-use crate::image::{ADDRESS, ALLOCATED_TAG, FREE_TAG, RECORD_SIZE};
+use crate::image::{ADDRESS, ALLOCATED_TAG, FREE_TAG};
 use crate::words::change_byte;
 use crate::{Image, Sequence};
 
 /// The first record, if the head is one.
 fn first_record(image: &Image) -> Option<usize> {
-    image.shape.record_at(image.head())
+    image.record_at(image.head())
 }
 
 /// The buffer that the first record names, if it names one.
 fn first_buffer(image: &Image) -> Option<usize> {
-    let name = first_record(image)? * RECORD_SIZE + ADDRESS;
+    let name = image.record(first_record(image)?) + ADDRESS;
     image.shape.buffer_at(image.record_word(name))
 }
 
 pub fn leave_records(image: &mut Image, sequence: &mut Sequence) {
-    let head = no_record(image.shape, sequence);
+    let head = no_record(image, sequence);
     image.put_head(head);
 }
 
 /// The first record names an address, if there is a first record.
 fn put_name(image: &mut Image, address: u32) {
     if let Some(record) = first_record(image) {
-        image.put_record_word(record * RECORD_SIZE + ADDRESS, address);
+        image.put_record_word(image.record(record) + ADDRESS, address);
     }
 }
 
@@ -49,9 +49,7 @@ fn put_tag(image: &mut Image, own_record: u32, tag: u32) {
 
 /// A record's address that may be the head, an address near it, or none at all.
 fn other_record(image: &Image, sequence: &mut Sequence) -> u32 {
-    let record = image
-        .shape
-        .record_address(sequence.below(image.shape.count));
+    let record = image.record_address(sequence.below(image.shape.count));
     let head = image.head();
     sequence.pick(&[record, record, head ^ 1, head ^ 0x8000_0000, 0])
 }

@@ -6,18 +6,18 @@ mod bytes;
 mod chain;
 mod chunk;
 mod head;
+mod header;
 mod pairing;
 mod sheet;
 mod times;
 
-use crate::image::RECORD_SIZE;
 use crate::{Image, Sequence, Shape};
 
 /// One way, with its name.
 pub type Hurt = (&'static str, fn(&mut Image, &mut Sequence));
 
 /// Every way there is.
-pub const HURTS: [Hurt; 48] = [
+pub const HURTS: [Hurt; 53] = [
     ("sheet: tag", sheet::change_tag),
     ("sheet: length of a field", sheet::change_field_length),
     ("sheet: fields out of order", sheet::exchange_fields),
@@ -64,6 +64,11 @@ pub const HURTS: [Hurt; 48] = [
     ("allocated: guard byte", chunk::change_guard),
     ("allocated: client stores the free fill", chunk::store_fill),
     ("allocated: bytes not judged", chunk::change_unjudged),
+    ("header: first word", header::change_first_word),
+    ("header: second word", header::change_second_word),
+    ("header: of another size", header::change_size),
+    ("header: words exchanged", header::exchange_words),
+    ("header: coded size below 9", header::shrink),
     ("stamp: high half", times::widen_stamp),
     ("bytes flipped", bytes::flip),
     ("bytes of meaning misplaced", bytes::misplace_words),
@@ -95,18 +100,19 @@ pub const HEAD_HURTS: [Hurt; 11] = [
 
 /// An address where no record starts: near the records, in one past its start, a
 /// buffer's, or any word.
-fn no_record(shape: Shape, sequence: &mut Sequence) -> u32 {
+fn no_record(image: &Image, sequence: &mut Sequence) -> u32 {
+    let (shape, step) = (image.shape, image.record_size() as u32);
     let any = sequence.word();
-    let inside = sequence.between(1, RECORD_SIZE - 1) as u32;
-    let record = shape.record_address(sequence.below(shape.count));
+    let inside = sequence.between(1, image.record_size() - 1) as u32;
+    let record = image.record_address(sequence.below(shape.count));
     sequence.pick(&[
         any,
         1,
         u32::MAX,
         record + inside,
         shape.heap_base,
-        shape.record_base.wrapping_sub(RECORD_SIZE as u32),
-        shape.record_base.wrapping_add(shape.record_length() as u32),
+        shape.record_base.wrapping_sub(step),
+        shape.record_base.wrapping_add(image.record_length() as u32),
     ])
 }
 

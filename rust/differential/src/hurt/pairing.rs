@@ -1,12 +1,12 @@
 //! Records that do not each name a buffer of their own.
 
 use super::no_buffer;
-use crate::image::{ADDRESS, RECORD_SIZE};
+use crate::image::ADDRESS;
 use crate::{Image, Sequence};
 
 /// Some record's address word, by its place in the record area.
 fn some_name(image: &Image, sequence: &mut Sequence) -> usize {
-    sequence.below(image.shape.count) * RECORD_SIZE + ADDRESS
+    image.record(sequence.below(image.shape.count)) + ADDRESS
 }
 
 /// One record, or two, name what another names.

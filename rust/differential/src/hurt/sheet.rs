@@ -4,7 +4,7 @@ use reference::{SHEET_LENGTH, SHORT_SHEET_LENGTH};
 
 use crate::image::{
     CACHE_BODY, CHUNK_SIZE_BODY, COUNT_BODY, FLAGS_BODY, HEAP_BASE_BODY, ORDER_BODY,
-    RECORD_BASE_BODY, RECORD_SIZE, SIZE_BODY,
+    RECORD_BASE_BODY, SIZE_BODY,
 };
 use crate::words::{change_byte, put_bytes, put_sheet_half, put_sheet_word};
 use crate::{Image, Sequence};
@@ -115,20 +115,26 @@ pub fn break_base(image: &mut Image, sequence: &mut Sequence) {
     let shape = image.shape;
     let (body, lawful, length) = sequence.pick(&[
         (HEAP_BASE_BODY, shape.heap_base, shape.heap_length()),
-        (RECORD_BASE_BODY, shape.record_base, shape.record_length()),
+        (RECORD_BASE_BODY, shape.record_base, image.record_length()),
     ]);
-    let too_high = (length as u32).wrapping_neg() + 8;
+    let too_high = aligned(length).wrapping_neg() + 8;
     let unaligned = lawful + sequence.between(1, 7) as u32;
     let base = sequence.pick(&[0, unaligned, too_high, 0xffff_fff8]);
     put_sheet_word(&mut image.sheet, body, base);
+}
+
+/// The length of an area, up to the next base behind it: an odd count of userland records
+/// ends between two.
+fn aligned(length: usize) -> u32 {
+    length.next_multiple_of(8) as u32
 }
 
 /// One range starts within the other, or on it, or takes its last or first bytes; or
 /// the ranges only touch, which is lawful.
 pub fn share_addresses(image: &mut Image, sequence: &mut Sequence) {
     let shape = image.shape;
-    let heap = (shape.heap_base, shape.heap_length() as u32);
-    let records = (shape.record_base, shape.record_length() as u32);
+    let heap = (shape.heap_base, aligned(shape.heap_length()));
+    let records = (shape.record_base, aligned(image.record_length()));
     let (body, length, other_base, other_length) = if sequence.once_in(2) {
         (HEAP_BASE_BODY, heap.1, records.0, records.1)
     } else {
@@ -155,7 +161,7 @@ pub fn change_cache(image: &mut Image, sequence: &mut Sequence) {
 /// areas the lengths that follow.
 fn put_sizes(image: &mut Image, size: u16, count: u16) {
     let heap_length = usize::from(count) * (usize::from(size) + 16);
-    let record_length = usize::from(count) * RECORD_SIZE;
+    let record_length = image.record(usize::from(count));
     put_sheet_half(&mut image.sheet, SIZE_BODY, size);
     put_sheet_half(&mut image.sheet, CHUNK_SIZE_BODY, size.wrapping_add(16));
     put_sheet_half(&mut image.sheet, COUNT_BODY, count);

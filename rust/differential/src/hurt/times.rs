@@ -1,6 +1,6 @@
 //! Stamps that a 32-bit uptime can't be compared with.
 
-use crate::image::{stamp_high, RECORD_SIZE};
+use crate::image::stamp_high;
 use crate::{Image, Sequence};
 
 /// One record's stamp, or every one, gets a non-zero high half.
@@ -15,6 +15,6 @@ pub fn widen_stamp(image: &mut Image, sequence: &mut Sequence) {
         0..count
     };
     for record in wide {
-        image.put_record_word(record * RECORD_SIZE + half, bit);
+        image.put_record_word(image.record(record) + half, bit);
     }
 }

@@ -5,11 +5,11 @@ use std::fmt::Display;
 
 use combgallop::{area_lengths, area_lengths_answer, AreaLengths};
 use differential::samples::dump;
-use differential::{Case, Form, Image, Sequence, FORMS};
-use reference::Refusal;
+use differential::{Case, Form, Image, Sequence, FORMS, PROFILES};
+use reference::{Profile, Refusal};
 
 use crate::counts::{Counts, Met, EXTREMES};
-use crate::expected::{expected_answer, expected_refusal, SHORT_OUTPUT};
+use crate::expected::{expected_answer, expected_profile, expected_refusal, SHORT_OUTPUT};
 use crate::lent::{numbered, Guarded};
 
 const CASES: u64 = 60_000;
@@ -23,14 +23,16 @@ const REFUSALS: [Met; 3] = [Met::Refusal(1, 0), Met::Refusal(2, 0), Met::Refusal
 /// Asks for the lengths with room for so many numbers, by the library in both forms,
 /// and answers whether it was to be refused.
 pub fn compare(
+    profile: Profile,
     sheet: &[u8],
     room: usize,
     sequence: &mut Sequence,
     story: &dyn Display,
 ) -> Result<(), Refusal> {
-    let expected = reference::area_lengths(sheet);
+    let expected = reference::area_lengths(profile, sheet);
+    let profile = expected_profile(profile);
     let lent = Guarded::new(sheet, sequence);
-    let found = area_lengths(lent.part());
+    let found = area_lengths(profile, lent.part());
     let expected_found = expected.map(|(heap, records)| AreaLengths { heap, records });
     let expected_found = expected_found.map_err(expected_refusal);
     assert_eq!(found, expected_found, "{story}");
@@ -46,7 +48,7 @@ pub fn compare(
         _ => Err(SHORT_OUTPUT),
     });
     let mut lengths = Guarded::new(&pattern, sequence);
-    let answer = area_lengths_answer(lent.part(), lengths.part_mut());
+    let answer = area_lengths_answer(profile, lent.part(), lengths.part_mut());
     let expected_answer = expected_answer(expected.map(|()| 0));
     assert_eq!(answer, expected_answer, "room {room}, {story}");
     let lengths_agree = lengths.holds(&expected_lengths);
@@ -69,11 +71,13 @@ pub fn note(counts: &mut Counts, image: &Image, found: Result<(), Refusal>) {
 #[test]
 fn hurt_images() {
     let mut counts = Counts::default();
-    for number in 0..CASES {
-        let (case, mut sequence) = Case::new(SEED, number);
-        let room = sequence.pick(&[0, 1, 2, 2, 2, 3, 40]);
-        let found = compare(&case.image.sheet, room, &mut sequence, &case);
-        note(&mut counts, &case.image, found);
+    for profile in PROFILES {
+        for number in 0..CASES {
+            let (case, mut sequence) = Case::new(profile, SEED, number);
+            let room = sequence.pick(&[0, 1, 2, 2, 2, 3, 40]);
+            let found = compare(profile, &case.image.sheet, room, &mut sequence, &case);
+            note(&mut counts, &case.image, found);
+        }
     }
     let wanted = [&[ACCEPTED], &REFUSALS[..], &EXTREMES].concat();
     counts.finish("area lengths, hurt images", SEED, &wanted);
@@ -98,7 +102,7 @@ fn compare_neighbours(form: Form, sequence: &mut Sequence, counts: &mut Counts) 
         for value in 0..=255 {
             image.sheet[at] = value;
             for room in 0..4 {
-                let found = compare(&image.sheet, room, sequence, &image);
+                let found = compare(form.profile(), &image.sheet, room, sequence, &image);
                 note(counts, &image, found);
             }
         }

@@ -1,9 +1,10 @@
-//! What a run met, in each form of the sheet, so that no rule goes untested unnoticed.
+//! What a run met, under each profile and in each form of the sheet, so that no rule goes
+//! untested unnoticed.
 
 use std::collections::BTreeMap;
 use std::fmt::{Display, Formatter, Result};
 
-use differential::{Form, Image, FORMS};
+use differential::{Form, Image, FORMS, USER_FORMS};
 use reference::Ending;
 
 /// A thing that a run can meet.
@@ -27,7 +28,7 @@ pub enum Met {
     Drawn(&'static str),
 }
 
-/// Every verdict there is.
+/// Every verdict there is under both profiles.
 pub const VERDICTS: [Met; 12] = [
     Met::Verdict(0),
     Met::Verdict(1),
@@ -42,6 +43,9 @@ pub const VERDICTS: [Met; 12] = [
     Met::Verdict(27),
     Met::Verdict(28),
 ];
+
+/// The verdict that userland alone has.
+pub const HEADER_VERDICT: Met = Met::Verdict(30);
 
 /// The ends of what is lawful.
 pub const EXTREMES: [Met; 5] = [
@@ -93,7 +97,7 @@ impl Display for Met {
     }
 }
 
-/// How often each thing was met, by the form of the sheet at hand.
+/// How often each thing was met, by the profile and the form of the sheet at hand.
 #[derive(Default)]
 pub struct Counts(BTreeMap<(Met, Form), usize>);
 
@@ -121,6 +125,12 @@ impl Counts {
     /// Prints the counts, and fails where a thing that can be met in every form was not.
     pub fn finish(&self, title: &str, seed: u64, wanted: &[Met]) {
         self.finish_in(&FORMS, title, seed, wanted);
+    }
+
+    /// The same, and for things that can be met under the userland profile alone.
+    pub fn finish_with(&self, title: &str, seed: u64, wanted: &[Met], in_userland: &[Met]) {
+        self.finish(title, seed, wanted);
+        self.want(&USER_FORMS, title, in_userland);
     }
 
     /// The same for things that can be met in these forms.

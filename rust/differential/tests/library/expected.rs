@@ -1,6 +1,6 @@
 //! What the library must say where the reference says this, in the library's types.
 
-use combgallop::{Answer, Fault, Finding, Order, Refusal, Verdict};
+use combgallop::{Answer, Fault, Finding, Order, Profile, Refusal, Verdict};
 
 /// Refusal 11, "output shorter than the exact need".
 pub const SHORT_OUTPUT: reference::Refusal = reference::Refusal {
@@ -16,7 +16,15 @@ pub fn expected_order(order: reference::Order) -> Order {
     }
 }
 
-/// All 64 bits of an answer.
+/// A profile, as the library's type names it.
+pub fn expected_profile(profile: reference::Profile) -> Profile {
+    match profile {
+        reference::Profile::Kernel => Profile::Kernel,
+        reference::Profile::Userland => Profile::Userland,
+    }
+}
+
+/// All 64 bits of an answer, but for that of an accepted show.
 pub fn expected_answer(value: Result<u32, reference::Refusal>) -> Answer {
     Answer(match value {
         Ok(value) => u64::from(value) << 32,
@@ -41,6 +49,7 @@ pub fn expected_refusal(refusal: reference::Refusal) -> Refusal {
         (7, 27) => Refusal::Damage(Fault::BadSizeCode),
         (7, 28) => Refusal::Damage(Fault::Overrun),
         (7, 29) => Refusal::BrokenHead,
+        (7, 30) => Refusal::Damage(Fault::BadHeader),
         (8, 0) => Refusal::NotAllocated,
         (9, 0) => Refusal::OtherGrant,
         (10, 0) => Refusal::PastClient,
@@ -66,6 +75,7 @@ pub fn expected_finding(finding: &reference::Finding) -> Finding {
         Second::RedzoneDiffers(offset) => Verdict::BadRedzone(offset),
         Second::BadSizeCode => Verdict::BadSizeCode,
         Second::GuardDiffers(offset) => Verdict::Overrun(offset),
+        Second::BadHeader => Verdict::BadHeader,
     };
     Finding {
         index: finding.index,

@@ -1,11 +1,12 @@
-//! The two forms of a sheet, and the sheets that are nearly one, for every call.
+//! The two forms of a sheet, and the sheets that are nearly one, for every call and under
+//! both profiles.
 
 use std::fmt::Display;
 
 use combgallop::Grant;
-use differential::samples::dump;
+use differential::samples::{dump, dump_request};
 use differential::{Form, Image, Sequence, FORMS, LONG_FORMS};
-use reference::{Order, Refusal, SHEET_LENGTH, SHORT_SHEET_LENGTH};
+use reference::{Order, Profile, Refusal, SHEET_LENGTH, SHORT_SHEET_LENGTH};
 
 use crate::calls::{Call, Numbers, Twin};
 use crate::counts::{Counts, Met};
@@ -17,7 +18,17 @@ const SEED: u64 = 0x1c52_48e9;
 /// "Whole report, 64 bytes."
 const DUMP_REPORT: &str = include_str!("../../../../samples/dump.expected");
 
-/// The dump's buffer 1, the one that is allocated, with 20 bytes.
+/// The same of the userland dump: the request is the coded size less 8.
+const USERLAND_REPORT: &str = "\
+heap report 1
+0 free
+1 allocated 12
+2 free
+chain 2 end
+faults 0
+";
+
+/// The dump's buffer 1, the one that is allocated.
 const BUFFER: u32 = 0x70a9_ae00;
 
 /// Where the body of the ninth field stands.
@@ -37,17 +48,17 @@ fn calls(image: &Image) -> [Call; 5] {
             bytes: b"relay".to_vec(),
         },
         Call::Allocate {
-            grant: Grant::Sized(24),
+            grant: Grant::Sized(image.most_request() as u32),
             uptime,
             thread,
         },
         Call::Free {
             address: BUFFER,
-            grant: Grant::Sized(20),
+            grant: Grant::Sized(dump_request(image.form)),
             uptime,
             thread,
         },
-        Call::LayOut(Numbers::new(image.order(), image.shape)),
+        Call::LayOut(Numbers::new(image.form, image.shape)),
     ]
 }
 
@@ -72,7 +83,7 @@ fn compare_all(
         // Any answer will do that both give.
         let _ = twin.run(&call, counts, sequence);
     }
-    let lengths = area_lengths::compare(&image.sheet, 2, sequence, story);
+    let lengths = area_lengths::compare(image.profile(), &image.sheet, 2, sequence, story);
     area_lengths::note(counts, image, lengths);
     lengths
 }
@@ -147,13 +158,17 @@ fn compare_changed(form: Form, at: usize, value: u8, counts: &mut Counts, sequen
     assert_eq!(found, expected, "{story}");
 }
 
-/// The dump in every form has one report: what the words say is the same.
+/// The dump in every form of its sheet has one report: what the words say is the same.
 #[test]
 fn dump_in_every_form() {
     let mut sequence = Sequence::new(SEED);
     for image in FORMS.map(dump) {
         let text = report::compare(&image, 64, &mut sequence, &image);
-        assert_eq!(text.as_deref(), Ok(DUMP_REPORT), "{:?}", image.form);
+        let expected = match image.profile() {
+            Profile::Kernel => DUMP_REPORT,
+            Profile::Userland => USERLAND_REPORT,
+        };
+        assert_eq!(text.as_deref(), Ok(expected), "{:?}", image.form);
     }
 }
 
@@ -170,21 +185,22 @@ fn dump_in_the_other_order() {
     }
 }
 
-/// What lay out writes, for both orders, beside areas of anything.
+/// What lay out writes, under both profiles and for both orders, beside areas of anything.
 #[test]
 fn lay_out_says_its_order() {
     let mut sequence = Sequence::new(SEED);
     let mut counts = Counts::default();
-    for (order, field) in [
-        (Order::HighFirst, [9, 0, 1, 0]),
-        (Order::LowFirst, [9, 0, 1, 1]),
-    ] {
-        let mut image = dump(Form::High);
+    for form in LONG_FORMS {
+        let field = match form.order() {
+            Order::HighFirst => [9, 0, 1, 0],
+            Order::LowFirst => [9, 0, 1, 1],
+        };
+        let mut image = dump(form);
         image.sheet.fill(0xa5);
-        let call = Call::LayOut(Numbers::new(order, image.shape));
+        let call = Call::LayOut(Numbers::new(form, image.shape));
         let mut twin = Twin::new(image, &"areas of the dump", &mut sequence);
         let answer = twin.run(&call, &mut counts, &mut sequence);
-        assert_eq!(answer, Ok(0), "{order:?}");
+        assert_eq!(answer, Ok(0), "{form:?}");
         assert_eq!(twin.lent.sheet.part()[SHORT_SHEET_LENGTH..], field);
     }
 }

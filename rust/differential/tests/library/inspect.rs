@@ -6,11 +6,13 @@ use std::fmt::Display;
 use combgallop::{inspect, inspect_answer};
 use differential::hurt::HURTS;
 use differential::neighbours::{each_neighbour, each_small_size_code};
-use differential::{sound_image, Case, Image, Sequence, Shape, FORMS};
+use differential::{sound_image, Case, Image, Sequence, Shape, FORMS, PROFILES};
 use reference::{chain, Finding, Refusal, Verdict};
 
-use crate::counts::{Counts, Met, ENDINGS, EXTREMES, READ_REFUSALS, VERDICTS};
-use crate::expected::{expected_answer, expected_finding, expected_refusal, put_rows};
+use crate::counts::{Counts, Met, ENDINGS, EXTREMES, HEADER_VERDICT, READ_REFUSALS, VERDICTS};
+use crate::expected::{
+    expected_answer, expected_finding, expected_profile, expected_refusal, put_rows,
+};
 use crate::lent::{numbered, Guarded, Lent};
 
 const CASES: u64 = 60_000;
@@ -26,7 +28,7 @@ pub fn compare(
 ) -> Result<Vec<Finding>, Refusal> {
     let (sheet, heap, records) = (&image.sheet, &image.heap, &image.records);
     let mut findings = vec![Finding::default(); room / 3];
-    let expected = reference::inspect(sheet, heap, records, &mut findings);
+    let expected = reference::inspect(image.profile(), sheet, heap, records, &mut findings);
     findings.truncate(expected.unwrap_or(0));
     let pattern = numbered(0xa5a5_0000, room);
     let mut expected_rows = pattern.clone();
@@ -34,15 +36,16 @@ pub fn compare(
 
     let lent = Lent::new(image, sequence);
     let (sheet, heap, records) = (lent.sheet.part(), lent.heap.part(), lent.records.part());
+    let profile = expected_profile(image.profile());
     let mut rows = Guarded::new(&pattern, sequence);
-    let answer = inspect_answer(sheet, heap, records, rows.part_mut());
+    let answer = inspect_answer(profile, sheet, heap, records, rows.part_mut());
     let count = expected.map(|count| count as u32);
     assert_eq!(answer, expected_answer(count), "room {room}, {story}");
     assert!(rows.holds(&expected_rows), "rows, room {room}, {story}");
     lent.assert_holds(image, story);
 
     let mut rows = Guarded::new(&pattern, sequence);
-    let found = inspect(sheet, heap, records, rows.part_mut());
+    let found = inspect(profile, sheet, heap, records, rows.part_mut());
     let found = found.map(|found| found.collect());
     let expected_found = expected.map(|_| findings.iter().map(expected_finding).collect());
     let expected_found: Result<Vec<_>, _> = expected_found.map_err(expected_refusal);
@@ -61,7 +64,7 @@ pub fn note(counts: &mut Counts, image: &Image, found: Result<Vec<Finding>, Refu
     for finding in findings {
         counts.note(form, Met::Verdict(finding.verdict.number()));
     }
-    let walked = chain(&image.sheet, &image.heap, &image.records);
+    let walked = chain(image.profile(), &image.sheet, &image.heap, &image.records);
     let ending = walked.expect("an image inspected has a chain").ending;
     counts.note(form, Met::chain(ending));
     counts.note_extremes(image);
@@ -70,26 +73,28 @@ pub fn note(counts: &mut Counts, image: &Image, found: Result<Vec<Finding>, Refu
 #[test]
 fn hurt_images() {
     let mut counts = Counts::default();
-    for number in 0..CASES {
-        let (case, mut sequence) = Case::new(SEED, number);
-        let room = sequence.room(3 * case.image.shape.count);
-        let found = compare(&case.image, room, &mut sequence, &case);
-        note(&mut counts, &case.image, found);
-        for name in case.hurts {
-            counts.note(case.image.form, Met::Hurt(name));
+    for profile in PROFILES {
+        for number in 0..CASES {
+            let (case, mut sequence) = Case::new(profile, SEED, number);
+            let room = sequence.room(3 * case.image.shape.count);
+            let found = compare(&case.image, room, &mut sequence, &case);
+            note(&mut counts, &case.image, found);
+            for name in case.hurts {
+                counts.note(case.image.form, Met::Hurt(name));
+            }
         }
     }
     let hurts: Vec<Met> = HURTS.iter().map(|&(name, _)| Met::Hurt(name)).collect();
     let wanted = [&VERDICTS[..], &ENDINGS, &READ_REFUSALS, &EXTREMES, &hurts].concat();
-    counts.finish("inspect, hurt images", SEED, &wanted);
+    counts.finish_with("inspect, hurt images", SEED, &wanted, &[HEADER_VERDICT]);
 }
 
 /// What the images are made from: a hurt would mean little if these had faults.
 #[test]
 fn sound_images_have_no_fault() {
     let mut sequence = Sequence::new(SEED);
-    for number in 0..2_000 {
-        let image = sound_image(&mut sequence);
+    for number in 0..4_000 {
+        let image = sound_image(PROFILES[number % 2], &mut sequence);
         let room = 3 * image.shape.count;
         let found = compare(&image, room, &mut sequence, &image);
         let findings = found.expect("a sound image is not refused");
@@ -102,23 +107,25 @@ fn sound_images_have_no_fault() {
 fn neighbours_of_the_dump() {
     let mut sequence = Sequence::new(SEED);
     let mut counts = Counts::default();
-    each_neighbour(|image| {
+    each_neighbour(&FORMS, |image| {
         let found = compare(image, 10, &mut sequence, image);
         note(&mut counts, image, found);
     });
-    counts.finish("inspect, neighbours of the dump", SEED, &VERDICTS[..3]);
+    let title = "inspect, neighbours of the dump";
+    counts.finish_with(title, SEED, &VERDICTS[..3], &[HEADER_VERDICT]);
 }
 
 #[test]
 fn every_small_size_code() {
     let mut sequence = Sequence::new(SEED);
     let mut counts = Counts::default();
-    each_small_size_code(|image| {
+    each_small_size_code(&FORMS, |image| {
         let found = compare(image, 9, &mut sequence, image);
         note(&mut counts, image, found);
     });
     let wanted = [Met::Verdict(2), Met::Verdict(27), Met::Verdict(28)];
-    counts.finish("inspect, every small size code", SEED, &wanted);
+    let title = "inspect, every small size code";
+    counts.finish_with(title, SEED, &wanted, &[HEADER_VERDICT]);
 }
 
 /// Buffer sizes about every end of a step that the fill is compared in.

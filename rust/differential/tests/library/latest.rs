@@ -4,11 +4,11 @@ use std::fmt::Display;
 
 use combgallop::{latest, latest_answer};
 use differential::latest::{choices_met, each_order_of_uptimes, some_index, some_now};
-use differential::{Case, Image, Sequence};
+use differential::{Case, Image, Sequence, FORMS, PROFILES};
 use reference::{Latest, Refusal};
 
 use crate::counts::{Counts, Met};
-use crate::expected::{expected_answer, expected_refusal};
+use crate::expected::{expected_answer, expected_profile, expected_refusal};
 use crate::lent::Lent;
 
 const CASES: u64 = 60_000;
@@ -38,7 +38,8 @@ pub fn compare(
     story: &dyn Display,
 ) -> Result<Latest, Refusal> {
     let (sheet, heap, records) = (&image.sheet, &image.heap, &image.records);
-    let expected = reference::latest(sheet, heap, records, &image.log, index, now);
+    let profile = image.profile();
+    let expected = reference::latest(profile, sheet, heap, records, &image.log, index, now);
     let expected_value = expected.map(|found| match found {
         Latest::Row(row) => row as u32,
         Latest::Record(record) => 0x8000_0000 + record as u32,
@@ -50,13 +51,13 @@ pub fn compare(
 
     let lent = Lent::new(image, sequence);
     let (sheet, heap, records) = (lent.sheet.part(), lent.heap.part(), lent.records.part());
-    let log = lent.log.part();
-    let answer = latest_answer(sheet, heap, records, log, index, now);
+    let (profile, log) = (expected_profile(profile), lent.log.part());
+    let answer = latest_answer(profile, sheet, heap, records, log, index, now);
     let expected_answer = expected_answer(expected_value);
     assert_eq!(answer, expected_answer, "index {index}, now {now}, {story}");
     lent.assert_holds(image, story);
 
-    let found = latest(sheet, heap, records, log, index, now);
+    let found = latest(profile, sheet, heap, records, log, index, now);
     assert_eq!(found, expected_found, "index {index}, now {now}, {story}");
     lent.assert_holds(image, story);
     expected
@@ -77,13 +78,15 @@ pub fn note(counts: &mut Counts, image: &Image, found: Result<Latest, Refusal>) 
 #[test]
 fn hurt_images() {
     let mut counts = Counts::default();
-    for number in 0..CASES {
-        let (case, mut sequence) = Case::new(SEED, number);
-        for _ in 0..3 {
-            let index = some_index(&case.image, &mut sequence);
-            let now = some_now(&case.image, &mut sequence);
-            let found = compare(&case.image, index, now, &mut sequence, &case);
-            note(&mut counts, &case.image, found);
+    for profile in PROFILES {
+        for number in 0..CASES {
+            let (case, mut sequence) = Case::new(profile, SEED, number);
+            for _ in 0..3 {
+                let index = some_index(&case.image, &mut sequence);
+                let now = some_now(&case.image, &mut sequence);
+                let found = compare(&case.image, index, now, &mut sequence, &case);
+                note(&mut counts, &case.image, found);
+            }
         }
     }
     counts.finish("latest, hurt images", SEED, &WANTED);
@@ -93,7 +96,7 @@ fn hurt_images() {
 fn every_order_of_uptimes() {
     let mut sequence = Sequence::new(SEED);
     let mut counts = Counts::default();
-    each_order_of_uptimes(|image, now| {
+    each_order_of_uptimes(&FORMS, |image, now| {
         let found = compare(image, 1, now, &mut sequence, image);
         note(&mut counts, image, found);
     });

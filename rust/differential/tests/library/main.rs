@@ -4,6 +4,7 @@
 mod area_lengths;
 mod calls;
 mod counts;
+mod crossed;
 mod expected;
 mod forms;
 mod inspect;
@@ -12,3 +13,5 @@ mod lent;
 mod long;
 mod report;
 mod survey;
+mod umem;
+mod userland;

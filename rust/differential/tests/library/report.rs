@@ -4,11 +4,11 @@ use std::fmt::Display;
 
 use combgallop::{report, report_answer};
 use differential::samples::dump;
-use differential::{Case, Image, Sequence, FORMS};
+use differential::{Case, Image, Sequence, FORMS, PROFILES};
 use reference::{chain, Refusal};
 
-use crate::counts::{Counts, Met, ENDINGS, READ_REFUSALS, VERDICTS};
-use crate::expected::{expected_answer, expected_refusal};
+use crate::counts::{Counts, Met, ENDINGS, HEADER_VERDICT, READ_REFUSALS, VERDICTS};
+use crate::expected::{expected_answer, expected_profile, expected_refusal};
 use crate::lent::{Guarded, Lent};
 
 const CASES: u64 = 60_000;
@@ -25,20 +25,21 @@ pub fn compare(
     let pattern: Vec<u8> = (0..room).map(|at| at as u8 | 0x80).collect();
     let (sheet, heap, records) = (&image.sheet, &image.heap, &image.records);
     let mut expected_output = pattern.clone();
-    let expected = reference::report(sheet, heap, records, &image.log, &mut expected_output);
+    let (profile, log) = (image.profile(), &image.log);
+    let expected = reference::report(profile, sheet, heap, records, log, &mut expected_output);
 
     let lent = Lent::new(image, sequence);
     let (sheet, heap, records) = (lent.sheet.part(), lent.heap.part(), lent.records.part());
-    let log = lent.log.part();
+    let (profile, log) = (expected_profile(profile), lent.log.part());
     let mut output = Guarded::new(&pattern, sequence);
-    let answer = report_answer(sheet, heap, records, log, output.part_mut());
+    let answer = report_answer(profile, sheet, heap, records, log, output.part_mut());
     let length = expected.map(|length| length as u32);
     assert_eq!(answer, expected_answer(length), "room {room}, {story}");
     assert!(output.holds(&expected_output), "output, {room}, {story}");
     lent.assert_holds(image, story);
 
     let mut output = Guarded::new(&pattern, sequence);
-    let answer = report(sheet, heap, records, log, output.part_mut());
+    let answer = report(profile, sheet, heap, records, log, output.part_mut());
     assert_eq!(answer, expected.map_err(expected_refusal), "{story}");
     assert!(output.holds(&expected_output), "output, {room}, {story}");
     lent.assert_holds(image, story);
@@ -48,7 +49,8 @@ pub fn compare(
 
 /// The exact need, more, one byte less, or anything less.
 fn some_room(image: &Image, sequence: &mut Sequence) -> usize {
-    let text = reference::report_text(&image.sheet, &image.heap, &image.records, &image.log);
+    let (sheet, heap, records) = (&image.sheet, &image.heap, &image.records);
+    let text = reference::report_text(image.profile(), sheet, heap, records, &image.log);
     let exact = text.map_or(64, |text| text.len());
     match sequence.below(12) {
         0 => sequence.below(exact),
@@ -79,7 +81,7 @@ pub fn note(counts: &mut Counts, image: &Image, found: Result<String, Refusal>) 
     for verdict in text.lines().filter_map(told_verdict) {
         counts.note(form, Met::Verdict(verdict));
     }
-    let walked = chain(&image.sheet, &image.heap, &image.records);
+    let walked = chain(image.profile(), &image.sheet, &image.heap, &image.records);
     let ending = walked.expect("an image reported has a chain").ending;
     counts.note(form, Met::chain(ending));
 }
@@ -87,14 +89,16 @@ pub fn note(counts: &mut Counts, image: &Image, found: Result<String, Refusal>) 
 #[test]
 fn hurt_images() {
     let mut counts = Counts::default();
-    for number in 0..CASES {
-        let (case, mut sequence) = Case::new(SEED, number);
-        let room = some_room(&case.image, &mut sequence);
-        let found = compare(&case.image, room, &mut sequence, &case);
-        note(&mut counts, &case.image, found);
+    for profile in PROFILES {
+        for number in 0..CASES {
+            let (case, mut sequence) = Case::new(profile, SEED, number);
+            let room = some_room(&case.image, &mut sequence);
+            let found = compare(&case.image, room, &mut sequence, &case);
+            note(&mut counts, &case.image, found);
+        }
     }
     let wanted = [&VERDICTS[..], &ENDINGS, &READ_REFUSALS].concat();
-    counts.finish("report, hurt images", SEED, &wanted);
+    counts.finish_with("report, hurt images", SEED, &wanted, &[HEADER_VERDICT]);
 }
 
 /// Every room from none to more than enough, for the dump.

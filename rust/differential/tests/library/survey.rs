@@ -5,12 +5,12 @@ use std::fmt::Display;
 
 use combgallop::{survey, survey_answer};
 use differential::samples::dump;
-use differential::{Case, Form, Image, Sequence, FORMS};
+use differential::{Case, Form, Image, Sequence, FORMS, PROFILES};
 use reference::{Chain, Ending, Finding, Refusal};
 
-use crate::counts::{Counts, Met, ENDINGS, EXTREMES, READ_REFUSALS, VERDICTS};
+use crate::counts::{Counts, Met, ENDINGS, EXTREMES, HEADER_VERDICT, READ_REFUSALS, VERDICTS};
 use crate::expected::{
-    expected_answer, expected_finding, expected_refusal, put_rows, SHORT_OUTPUT,
+    expected_answer, expected_finding, expected_profile, expected_refusal, put_rows, SHORT_OUTPUT,
 };
 use crate::lent::{numbered, Guarded, Lent};
 
@@ -21,8 +21,6 @@ const SEED: u64 = 0x4be2_7716;
 const ROWS_SHORT: Met = Met::Drawn("room for the rows alone too short");
 const CHAIN_SHORT: Met = Met::Drawn("room for the chain alone too short");
 const LOG_WRONG: Met = Met::Drawn("length of the log alone wrong");
-
-const RECORD_SIZE: usize = 96;
 
 /// How many numbers are lent for the rows and for the chain.
 #[derive(Clone, Copy, Debug)]
@@ -41,14 +39,15 @@ pub struct Found {
 /// the rows, as inspect gives it, or by the chain.
 fn expected_survey(image: &Image, room: Room) -> Result<Found, Refusal> {
     let (sheet, heap, records) = (&image.sheet, &image.heap, &image.records);
-    reference::report_text(sheet, heap, records, &image.log)?;
+    let profile = image.profile();
+    reference::report_text(profile, sheet, heap, records, &image.log)?;
     let mut findings = vec![Finding::default(); room.rows / 3];
-    let count = reference::inspect(sheet, heap, records, &mut findings)?;
+    let count = reference::inspect(profile, sheet, heap, records, &mut findings)?;
     findings.truncate(count);
     if room.chain < 3 {
         return Err(SHORT_OUTPUT);
     }
-    let chain = reference::chain(sheet, heap, records)?;
+    let chain = reference::chain(profile, sheet, heap, records)?;
     Ok(Found { findings, chain })
 }
 
@@ -108,7 +107,8 @@ fn compare_survey(
     });
     let (sheet, heap, records) = (lent.sheet.part(), lent.heap.part(), lent.records.part());
     let mut rows = Guarded::new(pattern, sequence);
-    let found = survey(sheet, heap, records, lent.log.part(), rows.part_mut());
+    let (profile, log) = (expected_profile(image.profile()), lent.log.part());
+    let found = survey(profile, sheet, heap, records, log, rows.part_mut());
     let found = found.map(|found| (found.findings.collect(), found.chain));
     let expected = expected.map_err(expected_refusal);
     assert_eq!(found, expected, "{room:?}, {story}");
@@ -140,7 +140,8 @@ fn compare_answer(
     let mut rows = Guarded::new(pattern, sequence);
     let mut chain = Guarded::new(&chain_pattern, sequence);
     let (rows_part, chain_part) = (rows.part_mut(), chain.part_mut());
-    let answer = survey_answer(sheet, heap, records, lent.log.part(), rows_part, chain_part);
+    let (profile, log) = (expected_profile(image.profile()), lent.log.part());
+    let answer = survey_answer(profile, sheet, heap, records, log, rows_part, chain_part);
     assert_eq!(answer, expected_answer(value), "{room:?}, {story}");
     assert!(rows.holds(&expected_rows), "rows, {room:?}, {story}");
     assert!(chain.holds(&expected_chain), "chain, {room:?}, {story}");
@@ -167,9 +168,11 @@ fn note_refusal(counts: &mut Counts, image: &Image, room: Room, refusal: Refusal
     counts.note_refusal(form, refusal);
     let (sheet, heap, records) = (&image.sheet, &image.heap, &image.records);
     let mut findings = vec![Finding::default(); room.rows / 3];
-    let rows_suffice = reference::inspect(sheet, heap, records, &mut findings).is_ok();
+    let profile = image.profile();
+    let rows_suffice = reference::inspect(profile, sheet, heap, records, &mut findings).is_ok();
+    let are_areas = reference::chain(profile, sheet, heap, records).is_ok();
     match refusal.number {
-        3 if reference::chain(sheet, heap, records).is_ok() => counts.note(form, LOG_WRONG),
+        3 if are_areas => counts.note(form, LOG_WRONG),
         11 if rows_suffice => counts.note(form, CHAIN_SHORT),
         11 if room.chain >= 3 => counts.note(form, ROWS_SHORT),
         _ => {}
@@ -179,18 +182,20 @@ fn note_refusal(counts: &mut Counts, image: &Image, room: Room, refusal: Refusal
 #[test]
 fn hurt_images() {
     let mut counts = Counts::default();
-    for number in 0..CASES {
-        let (case, mut sequence) = Case::new(SEED, number);
-        let room = Room {
-            rows: sequence.room(3 * case.image.shape.count),
-            chain: sequence.room(3),
-        };
-        let found = compare(&case.image, room, &mut sequence, &case);
-        note(&mut counts, &case.image, room, found);
+    for profile in PROFILES {
+        for number in 0..CASES {
+            let (case, mut sequence) = Case::new(profile, SEED, number);
+            let room = Room {
+                rows: sequence.room(3 * case.image.shape.count),
+                chain: sequence.room(3),
+            };
+            let found = compare(&case.image, room, &mut sequence, &case);
+            note(&mut counts, &case.image, room, found);
+        }
     }
     let causes = [ROWS_SHORT, CHAIN_SHORT, LOG_WRONG];
     let wanted = [&VERDICTS[..], &ENDINGS, &READ_REFUSALS, &EXTREMES, &causes].concat();
-    counts.finish("survey, hurt images", SEED, &wanted);
+    counts.finish_with("survey, hurt images", SEED, &wanted, &[HEADER_VERDICT]);
 }
 
 /// Every room from none to more than enough, for the dump's three buffers.
@@ -224,14 +229,14 @@ fn every_chain() {
 
 fn compare_chains(form: Form, sequence: &mut Sequence, counts: &mut Counts) {
     let mut image = dump(form);
-    let [first, second, third] = [0, 1, 2].map(|record| image.shape.record_address(record));
+    let [first, second, third] = [0, 1, 2].map(|record| image.record_address(record));
     let targets = [0, first, second, third, second + 4];
     let room = Room { rows: 9, chain: 3 };
     for choice in 0..5 * 5 * 5 * 5 {
         let target = |place: u32| targets[choice / 5usize.pow(place) % 5];
         image.put_head(target(3));
         for record in 0..3 {
-            let next = RECORD_SIZE * record as usize;
+            let next = image.record(record as usize);
             image.put_record_word(next, target(record));
         }
         let found = compare(&image, room, sequence, &image);

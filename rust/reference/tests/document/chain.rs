@@ -1,4 +1,4 @@
-//! The chain's endings and the records it meets.
+//! The chain's endings and the records it meets, under both profiles.
 
 use crate::image::*;
 use reference::{chain, Chain, Ending};
@@ -8,7 +8,12 @@ fn expect(image: &Image, met: &[usize], ending: Ending) {
         met: met.to_vec(),
         ending,
     };
-    let answer = chain(&image.sheet, &image.heap, &image.records);
+    let answer = chain(
+        image.form.profile(),
+        &image.sheet,
+        &image.heap,
+        &image.records,
+    );
     assert_eq!(answer, Ok(expected));
 }
 
@@ -29,8 +34,8 @@ fn head_0_meets_none() {
 #[test]
 fn chain_through_every_record_is_no_cycle() {
     for form in FORMS {
-        let mut image = dump_with_head(form, RECORD_1);
-        image.put_record(RECORD[1] + NEXT, RECORD_2);
+        let mut image = dump_with_head(form, form.record(1));
+        image.put_record(form.place(1) + NEXT, form.record(2));
         expect(&image, &[1, 2, 0], Ending::End);
     }
 }
@@ -40,11 +45,12 @@ fn head_that_is_no_record_is_broken() {
     for form in FORMS {
         // One before the first, one past the last, inside one, and an address of the heap.
         for head in [
-            RECORD_0 - 96,
-            RECORD_0 + 288,
-            RECORD_0 + 4,
+            form.record(0) - form.record_size() as u32,
+            form.record(0) + form.record_length() as u32,
+            form.record(0) + 4,
+            form.record(0) + form.of(100, 96),
             0x70a9_add8,
-            RECORD_0.swap_bytes(),
+            form.record(0).swap_bytes(),
             1,
             u32::MAX,
         ] {
@@ -57,9 +63,9 @@ fn head_that_is_no_record_is_broken() {
 fn next_word_that_is_no_record_is_broken_after_the_record() {
     for form in FORMS {
         let mut image = dump(form);
-        image.put_record(RECORD[0] + NEXT, RECORD_0 + 48);
+        image.put_record(form.place(0) + NEXT, form.record(0) + 48);
         expect(&image, &[2, 0], Ending::Broken);
-        image.put_record(RECORD[0] + NEXT, RECORD_1.swap_bytes());
+        image.put_record(form.place(0) + NEXT, form.record(1).swap_bytes());
         expect(&image, &[2, 0], Ending::Broken);
     }
 }
@@ -68,7 +74,7 @@ fn next_word_that_is_no_record_is_broken_after_the_record() {
 fn record_naming_itself_is_again_and_counted_once() {
     for form in FORMS {
         let mut image = dump(form);
-        image.put_record(RECORD[2] + NEXT, RECORD_2);
+        image.put_record(form.place(2) + NEXT, form.record(2));
         expect(&image, &[2], Ending::Again(2));
     }
 }
@@ -77,12 +83,12 @@ fn record_naming_itself_is_again_and_counted_once() {
 fn again_names_the_record_met_twice_and_not_the_last() {
     for form in FORMS {
         let mut image = dump(form);
-        image.put_record(RECORD[0] + NEXT, RECORD_2);
+        image.put_record(form.place(0) + NEXT, form.record(2));
         expect(&image, &[2, 0], Ending::Again(2));
 
-        let mut image = dump_with_head(form, RECORD_1);
-        image.put_record(RECORD[1] + NEXT, RECORD_2);
-        image.put_record(RECORD[0] + NEXT, RECORD_2);
+        let mut image = dump_with_head(form, form.record(1));
+        image.put_record(form.place(1) + NEXT, form.record(2));
+        image.put_record(form.place(0) + NEXT, form.record(2));
         expect(&image, &[1, 2, 0], Ending::Again(2));
     }
 }

@@ -1,10 +1,12 @@
-//! Free: the bytes it writes, in both orders, and what it refuses, in order.
+//! Free: the bytes it writes, in both orders and under both profiles, and what it
+//! refuses, in order.
 
 use crate::image::*;
 use reference::{free, Grant, Refusal};
 
 fn call(image: &mut Image, address: u32, grant: Grant) -> Result<(), Refusal> {
     free(
+        image.form.profile(),
         &mut image.sheet,
         &mut image.heap,
         &mut image.records,
@@ -24,17 +26,18 @@ fn refuses(mut image: Image, address: u32, grant: Grant, refusal: Result<(), Ref
 
 /// The dump after buffer 1 was freed, where the head before was this.
 fn freed(form: Form, old_head: u32) -> Image {
-    let mut image = dump_with_head(form, RECORD_1);
-    // 0x70ae3200 xor 0xf4eef4ee = 0x8440c6ee.
+    let mut image = dump_with_head(form, form.record(1));
+    // 0x70ae3200 xor 0xf4eef4ee = 0x8440c6ee; 0x70ae3204 xor 0xf4eef4ee = 0x8440c6ea.
+    let [t0, t1] = form.of([0x70ae3200, 0x8440c6ee], [0x70ae3204, 0x8440c6ea]);
     #[rustfmt::skip]
     let chunk = form.words(&[
         0xdeadbeef, 0xdeadbeef, 0xdeadbeef, 0xdeadbeef, 0xdeadbeef, 0xdeadbeef,
-        0xfeedface, 0xfeedface, 0x70ae3200, 0x8440c6ee,
+        0xfeedface, 0xfeedface, t0, t1,
     ]);
     image.heap[40..80].copy_from_slice(&chunk);
-    image.put_record(RECORD[1] + NEXT, old_head);
-    image.put_stamp(RECORD[1], u64::from(UPTIME));
-    image.put_record(RECORD[1] + THREAD, THREAD_WORD);
+    image.put_record(form.place(1) + NEXT, old_head);
+    image.put_stamp(form.place(1), u64::from(UPTIME));
+    image.put_record(form.place(1) + THREAD, THREAD_WORD);
     image
 }
 
@@ -42,36 +45,43 @@ fn freed(form: Form, old_head: u32) -> Image {
 fn sized_grant_is_freed() {
     for form in FORMS {
         let mut image = dump(form);
-        image.put_stamp(RECORD[1], 7 << 32);
-        assert_eq!(call(&mut image, BUFFER_1, Grant::Sized(20)), Ok(()));
-        assert_eq!(image, freed(form, RECORD_2));
+        image.put_stamp(form.place(1), 7 << 32);
+        assert_eq!(
+            call(&mut image, BUFFER_1, Grant::Sized(dump_size(form))),
+            Ok(())
+        );
+        assert_eq!(image, freed(form, form.record(2)));
     }
 }
 
 #[test]
 fn full_size_grant_is_freed() {
     for form in FORMS {
-        let mut image = dump_with_redzone(form, full_r0(form), 0x1789);
-        assert_eq!(call(&mut image, BUFFER_1, Grant::Sized(24)), Ok(()));
-        assert_eq!(image, freed(form, RECORD_2));
+        let mut image = dump_full(form);
+        let largest = Grant::Sized(full_size(form));
+        assert_eq!(call(&mut image, BUFFER_1, largest), Ok(()));
+        assert_eq!(image, freed(form, form.record(2)));
     }
 }
 
 #[test]
 fn whole_grant_is_freed() {
     for form in FORMS {
-        let mut image = dump_with_redzone(form, 0xfeedface, 0xfeedface);
+        let mut image = dump_whole(form);
         assert_eq!(call(&mut image, BUFFER_1, Grant::Whole), Ok(()));
-        assert_eq!(image, freed(form, RECORD_2));
+        assert_eq!(image, freed(form, form.record(2)));
     }
 }
 
 #[test]
 fn old_head_goes_into_next_whatever_it_is() {
     for form in FORMS {
-        for head in [0, RECORD_0, RECORD_1, 0x1234_5678] {
+        for head in [0, form.record(0), form.record(1), 0x1234_5678] {
             let mut image = dump_with_head(form, head);
-            assert_eq!(call(&mut image, BUFFER_1, Grant::Sized(20)), Ok(()));
+            assert_eq!(
+                call(&mut image, BUFFER_1, Grant::Sized(dump_size(form))),
+                Ok(())
+            );
             assert_eq!(image, freed(form, head));
         }
     }
@@ -86,9 +96,14 @@ fn refusal_4_address_is_no_buffers_start() {
             BUFFER_1 + 8,
             BUFFER_0 - 40,
             BUFFER_2 + 40,
-            RECORD_1,
+            form.record(1),
         ] {
-            refuses(dump(form), address, Grant::Sized(20), refused(4));
+            refuses(
+                dump(form),
+                address,
+                Grant::Sized(dump_size(form)),
+                refused(4),
+            );
         }
     }
 }
@@ -96,11 +111,11 @@ fn refusal_4_address_is_no_buffers_start() {
 #[test]
 fn refusal_7_with_21_t0_names_no_record() {
     for form in FORMS {
-        // 0x70ae3208 xor 0xa110c8ed = 0xd1befae5.
+        // 0x70ae3208 xor 0xa110c8ed = 0xd1befae5. No record of either profile starts there.
         let mut image = dump(form);
         image.put_heap(CHUNK[1] + T0, 0x70ae3208);
         image.put_heap(CHUNK[1] + T1, 0xd1befae5);
-        refuses(image, BUFFER_1, Grant::Sized(20), damaged(21));
+        refuses(image, BUFFER_1, Grant::Sized(dump_size(form)), damaged(21));
     }
 }
 
@@ -109,13 +124,13 @@ fn refusal_7_with_21_record_names_another_buffer() {
     for form in FORMS {
         for address in [BUFFER_0, BUFFER_1 + 4, 0] {
             let mut image = dump(form);
-            image.put_record(RECORD[1] + ADDRESS, address);
-            refuses(image, BUFFER_1, Grant::Sized(20), damaged(21));
+            image.put_record(form.place(1) + ADDRESS, address);
+            refuses(image, BUFFER_1, Grant::Sized(dump_size(form)), damaged(21));
         }
         // On a free buffer too: 21 comes before 8.
         let mut image = dump(form);
-        image.put_record(RECORD[2] + ADDRESS, BUFFER_1);
-        refuses(image, BUFFER_0, Grant::Sized(20), damaged(21));
+        image.put_record(form.place(2) + ADDRESS, BUFFER_1);
+        refuses(image, BUFFER_0, Grant::Sized(dump_size(form)), damaged(21));
     }
 }
 
@@ -123,9 +138,9 @@ fn refusal_7_with_21_record_names_another_buffer() {
 fn refusal_7_with_21_neither_pattern() {
     for form in FORMS {
         let mut image = dump(form);
-        image.put_heap(CHUNK[1] + T1, 0xd1befaec);
+        image.put_heap(CHUNK[1] + T1, form.of(0xd1befaec, 0xd1befae8));
         image.put_heap(CHUNK[1] + R1, 0);
-        refuses(image, BUFFER_1, Grant::Sized(20), damaged(21));
+        refuses(image, BUFFER_1, Grant::Sized(dump_size(form)), damaged(21));
     }
 }
 
@@ -164,7 +179,7 @@ fn refusal_7_with_28_guard_or_redzone() {
             refuses(
                 dump_with_redzone(form, r0, r1),
                 BUFFER_1,
-                Grant::Sized(20),
+                Grant::Sized(dump_size(form)),
                 damaged(28),
             );
         }
@@ -174,15 +189,37 @@ fn refusal_7_with_28_guard_or_redzone() {
 #[test]
 fn refusal_9_size_or_whole_differs_from_the_grant() {
     for form in FORMS {
-        let sized_20 = dump(form);
-        let sized_24 = dump_with_redzone(form, full_r0(form), 0x1789);
-        let whole = dump_with_redzone(form, 0xfeedface, 0xfeedface);
-        for size in [0, 19, 21, 24, 25, u32::MAX] {
-            refuses(sized_20.clone(), BUFFER_1, Grant::Sized(size), refused(9));
+        let size = dump_size(form);
+        for other in [0, 4, size - 1, size + 1, 24, 25, u32::MAX] {
+            refuses(dump(form), BUFFER_1, Grant::Sized(other), refused(9));
         }
-        refuses(sized_20, BUFFER_1, Grant::Whole, refused(9));
-        refuses(sized_24, BUFFER_1, Grant::Whole, refused(9));
-        refuses(whole, BUFFER_1, Grant::Sized(24), refused(9));
+        refuses(dump(form), BUFFER_1, Grant::Whole, refused(9));
+        refuses(dump_full(form), BUFFER_1, Grant::Whole, refused(9));
+        for size in [16, 24] {
+            refuses(dump_whole(form), BUFFER_1, Grant::Sized(size), refused(9));
+        }
+    }
+}
+
+/// "Verdict 2 and free name the request", not the coded size.
+#[test]
+fn refusal_9_coded_size() {
+    for form in USER_FORMS {
+        refuses(dump(form), BUFFER_1, Grant::Sized(20), refused(9));
+        refuses(dump_full(form), BUFFER_1, Grant::Sized(24), refused(9));
+    }
+}
+
+#[test]
+fn refusal_7_with_30_comes_after_28_and_before_9() {
+    for form in USER_FORMS {
+        let mut image = dump(form);
+        image.heap[CHUNK[1]] ^= 1;
+        for grant in [Grant::Sized(12), Grant::Sized(20), Grant::Whole] {
+            refuses(image.clone(), BUFFER_1, grant, damaged(30));
+        }
+        image.heap[CHUNK[1] + 20] = 0;
+        refuses(image, BUFFER_1, Grant::Sized(12), damaged(28));
     }
 }
 
@@ -190,16 +227,22 @@ fn refusal_9_size_or_whole_differs_from_the_grant() {
 fn second_record_naming_the_buffer_is_no_refusal() {
     for form in FORMS {
         let mut image = dump(form);
-        image.put_record(RECORD[0] + ADDRESS, BUFFER_1);
-        assert_eq!(call(&mut image, BUFFER_1, Grant::Sized(20)), Ok(()));
+        image.put_record(form.place(0) + ADDRESS, BUFFER_1);
+        assert_eq!(
+            call(&mut image, BUFFER_1, Grant::Sized(dump_size(form))),
+            Ok(())
+        );
     }
 }
 
 #[test]
 fn record_met_by_the_chain_is_no_refusal() {
     for form in FORMS {
-        let mut image = dump_with_head(form, RECORD_1);
-        assert_eq!(call(&mut image, BUFFER_1, Grant::Sized(20)), Ok(()));
-        assert_eq!(image, freed(form, RECORD_1));
+        let mut image = dump_with_head(form, form.record(1));
+        assert_eq!(
+            call(&mut image, BUFFER_1, Grant::Sized(dump_size(form))),
+            Ok(())
+        );
+        assert_eq!(image, freed(form, form.record(1)));
     }
 }

@@ -30,20 +30,24 @@ impl Sequence {
 }
 
 /// Words that mean something in the dump.
-const WORDS: [u32; 17] = [
+const WORDS: [u32; 26] = [
     0, 1, 0x139d, 0x1789, 0xfeedface, 0xbbedface, 0xfeedfabb, 0xdeadbeef, 0x70a9add8, 0x70a9ae00,
-    0x70a9ae28, 0x70ae31a0, 0x70ae3200, 0x70ae3260, 0x8440c68e, 0xd1befaed, 0xffffffff,
+    0x70a9ae28, 0x70ae31a0, 0x70ae3200, 0x70ae3260, 0x8440c68e, 0xd1befaed, 0xffffffff, 0x70ae3204,
+    0x70ae3268, 0x8440c686, 0xd1befae9, 0x14, 0x18, 0x3a10bfec, 0x3a10bfe8, 0x7d9,
 ];
 
 /// The dump in some form with a few words and bytes changed, and now and then an area
 /// cut.
 fn some_image(sequence: &mut Sequence) -> Image {
-    let mut image = dump(FORMS[sequence.below(3) as usize]);
+    let mut image = dump(FORMS[sequence.below(6) as usize]);
     for _ in 0..sequence.below(5) {
-        let word = WORDS[sequence.below(17) as usize];
+        let word = WORDS[sequence.below(26) as usize];
         match sequence.below(12) {
             0..=3 => image.put_heap(4 * sequence.below(30) as usize, word),
-            4..=7 => image.put_record(4 * sequence.below(72) as usize, word),
+            4..=7 => {
+                let words = image.records.len() as u32 / 4;
+                image.put_record(4 * sequence.below(words) as usize, word);
+            }
             8..=9 => put_sheet(&mut image.sheet, 39, word),
             10 => {
                 let at = sequence.below(image.sheet.len() as u32) as usize;
@@ -56,6 +60,14 @@ fn some_image(sequence: &mut Sequence) -> Image {
         0 => image.sheet.truncate(sequence.below(52) as usize),
         1 => image.heap.truncate(sequence.below(120) as usize),
         2 => image.records.truncate(sequence.below(288) as usize),
+        3 => {
+            // The other profile, whose records fit or do not.
+            let length = image.form.of(300, 288);
+            image.form = FORMS[sequence.below(6) as usize];
+            if sequence.below(2) == 0 {
+                image.records.resize(length, 0);
+            }
+        }
         _ => {}
     }
     image
@@ -66,14 +78,15 @@ fn some_word(sequence: &mut Sequence) -> u32 {
     match sequence.below(4) {
         0 => sequence.word(),
         1 => sequence.below(30),
-        _ => WORDS[sequence.below(17) as usize],
+        _ => WORDS[sequence.below(26) as usize],
     }
 }
 
 fn some_grant(sequence: &mut Sequence) -> Grant {
-    match sequence.below(3) {
+    match sequence.below(4) {
         0 => Grant::Whole,
         1 => Grant::Sized(20),
+        2 => Grant::Sized(12),
         _ => Grant::Sized(some_word(sequence)),
     }
 }
@@ -89,16 +102,25 @@ fn a_changing_call_refuses_or_changes_but_not_both() {
             sheet,
             heap,
             records,
-            ..
+            form,
         } = &mut image;
+        let profile = form.profile();
         let grant = some_grant(&mut sequence);
         let address = some_word(&mut sequence);
         // A byte the heap has not, so that an accepted store changes it.
         let byte = (0..=255).find(|byte| !heap.contains(byte)).unwrap();
         let answer = match sequence.below(3) {
-            0 => allocate(sheet, heap, records, grant, 1, 2).map(|_| ()),
-            1 => free(sheet, heap, records, address, grant, 1, 2),
-            _ => store(sheet, heap, records, address, sequence.below(20), &[byte]),
+            0 => allocate(profile, sheet, heap, records, grant, 1, 2).map(|_| ()),
+            1 => free(profile, sheet, heap, records, address, grant, 1, 2),
+            _ => store(
+                profile,
+                sheet,
+                heap,
+                records,
+                address,
+                sequence.below(20),
+                &[byte],
+            ),
         };
         assert_eq!(answer.is_err(), image == before);
         refusals += usize::from(answer.is_err());
@@ -113,11 +135,12 @@ fn reading_calls_agree_on_refusals_and_faults() {
     for _ in 0..20_000 {
         let image = some_image(&mut sequence);
         let (sheet, heap, records) = (&image.sheet, &image.heap, &image.records);
+        let profile = image.form.profile();
         let mut rows = [Finding::default(); 512];
         let mut output = [0; 16_384];
-        let inspected = inspect(sheet, heap, records, &mut rows);
-        let reported = report(sheet, heap, records, &[], &mut output);
-        let walked = chain(sheet, heap, records);
+        let inspected = inspect(profile, sheet, heap, records, &mut rows);
+        let reported = report(profile, sheet, heap, records, &[], &mut output);
+        let walked = chain(profile, sheet, heap, records);
         assert_eq!(inspected.err(), reported.err());
         assert_eq!(inspected.err(), walked.err());
         let Ok(count) = inspected else {
@@ -143,9 +166,18 @@ fn latest_names_a_row_or_record_there_is() {
         let log = image.form.words(&words);
         let index = sequence.below(4);
         let now = some_word(&mut sequence);
-        match latest(&image.sheet, &image.heap, &image.records, &log, index, now) {
+        match latest(
+            image.form.profile(),
+            &image.sheet,
+            &image.heap,
+            &image.records,
+            &log,
+            index,
+            now,
+        ) {
             Ok(Latest::Row(row)) => {
-                let names_a_record = [0x70ae31a0, 0x70ae3200, 0x70ae3260].contains(&words[4 * row]);
+                let records = [0, 1, 2].map(|record| image.form.record(record));
+                let names_a_record = records.contains(&words[4 * row]);
                 assert!(names_a_record || image.sheet != dump(image.form).sheet);
                 rows_found += 1;
             }

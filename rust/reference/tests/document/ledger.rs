@@ -1,7 +1,7 @@
 //! Long lists of calls on a fresh heap, against a ledger kept from the calls'
 //! arguments and answers.
 
-use crate::image::{blank, refused, Form, Image, LONG_FORMS};
+use crate::image::{fresh, refused, Form, Image, LONG_FORMS};
 use crate::inputs::Sequence;
 use reference::*;
 
@@ -25,20 +25,7 @@ struct Heap {
 
 impl Heap {
     fn fresh(form: Form, size: u32, count: u32) -> Heap {
-        let heap_length = count * (size + 16);
-        let mut image = blank(form, heap_length as usize, count as usize * 96);
-        lay_out(
-            form.order(),
-            7,
-            HEAP_BASE,
-            RECORD_BASE,
-            size,
-            count,
-            &mut image.sheet,
-            &mut image.heap,
-            &mut image.records,
-        )
-        .unwrap();
+        let image = fresh(form, HEAP_BASE, RECORD_BASE, size, count);
         let out = vec![None; count as usize];
         Heap {
             image,
@@ -54,12 +41,12 @@ impl Heap {
 
     fn allocate(&mut self, grant: Grant) {
         let Image {
+            form,
             sheet,
             heap,
             records,
-            ..
         } = &mut self.image;
-        let answer = allocate(sheet, heap, records, grant, 1, 2);
+        let answer = allocate(form.profile(), sheet, heap, records, grant, 1, 2);
         if self.out.iter().all(Option::is_some) {
             assert_eq!(answer, refused(5));
             return;
@@ -72,10 +59,7 @@ impl Heap {
             Grant::Whole => self.size,
             Grant::Sized(s) => s,
         };
-        let fill = self
-            .image
-            .form
-            .pick([0xba, 0xdd, 0xca, 0xfe], [0xfe, 0xca, 0xdd, 0xba]);
+        let fill = form.pick([0xba, 0xdd, 0xca, 0xfe], [0xfe, 0xca, 0xdd, 0xba]);
         let client = fill.into_iter().cycle().take(length as usize).collect();
         self.out[index] = Some(Out { grant, client });
     }
@@ -83,12 +67,12 @@ impl Heap {
     fn free(&mut self, index: usize, grant: Grant) {
         let address = self.address(index);
         let Image {
+            form,
             sheet,
             heap,
             records,
-            ..
         } = &mut self.image;
-        let answer = free(sheet, heap, records, address, grant, 3, 4);
+        let answer = free(form.profile(), sheet, heap, records, address, grant, 3, 4);
         match &self.out[index] {
             None => assert_eq!(answer, refused(8)),
             Some(out) if out.grant != grant => {
@@ -104,12 +88,20 @@ impl Heap {
     fn store(&mut self, index: usize, offset: usize, bytes: &[u8]) {
         let address = self.address(index);
         let Image {
+            form,
             sheet,
             heap,
             records,
-            ..
         } = &mut self.image;
-        let answer = store(sheet, heap, records, address, offset as u32, bytes);
+        let answer = store(
+            form.profile(),
+            sheet,
+            heap,
+            records,
+            address,
+            offset as u32,
+            bytes,
+        );
         match &mut self.out[index] {
             None => assert_eq!(answer, refused(8)),
             Some(out) if offset + bytes.len() > out.client.len() => {
@@ -122,18 +114,33 @@ impl Heap {
         }
     }
 
+    /// "Any other size is refusal 6", also where there is no room.
+    fn ask_too_much(&mut self, request: u32) {
+        let before = self.image.clone();
+        let Image {
+            form,
+            sheet,
+            heap,
+            records,
+        } = &mut self.image;
+        let grant = Grant::Sized(request);
+        let answer = allocate(form.profile(), sheet, heap, records, grant, 1, 2);
+        assert_eq!(answer, refused(6));
+        assert_eq!(self.image, before);
+    }
+
     /// Every buffer is found as the ledger has it, shows the stored bytes, and is
     /// met by the chain just when it is not out.
     fn check(&self) {
         let Image {
+            form,
             sheet,
             heap,
             records,
-            ..
         } = &self.image;
         let mut rows = vec![Finding::default(); self.count as usize];
-        inspect(sheet, heap, records, &mut rows).unwrap();
-        let chain = chain(sheet, heap, records).unwrap();
+        inspect(form.profile(), sheet, heap, records, &mut rows).unwrap();
+        let chain = chain(form.profile(), sheet, heap, records).unwrap();
         assert_eq!(chain.ending, Ending::End);
         for (index, out) in self.out.iter().enumerate() {
             let verdict = rows[index].verdict;
@@ -146,31 +153,51 @@ impl Heap {
             assert_eq!(found, expected);
             assert_eq!(chain.met.contains(&index), out.is_none());
             if let Some(out) = out {
-                let shown = show(sheet, heap, records, self.address(index));
-                assert_eq!(shown, Ok(&out.client[..]));
+                let shown = show(form.profile(), sheet, heap, records, self.address(index));
+                let expected = Shown {
+                    offset: client_offset(*form, out.grant),
+                    bytes: &out.client,
+                };
+                assert_eq!(shown, Ok(expected));
             }
         }
     }
 }
 
-fn some_grant(sequence: &mut Sequence, size: u32) -> Grant {
+/// Where in its buffer the first client byte stands: "the first 8 buffer bytes are a
+/// header" of a sized grant under the userland profile.
+fn client_offset(form: Form, grant: Grant) -> u32 {
+    match grant {
+        Grant::Whole => 0,
+        Grant::Sized(_) => form.of(0, 8),
+    }
+}
+
+/// A whole grant or one of a lawful size, of which there are as many as the largest.
+fn some_grant(sequence: &mut Sequence, largest: u32) -> Grant {
     match sequence.below(4) {
+        _ if largest == 0 => Grant::Whole,
         0 => Grant::Whole,
-        1 => Grant::Sized(size),
-        _ => Grant::Sized(1 + sequence.below(size)),
+        1 => Grant::Sized(largest),
+        _ => Grant::Sized(1 + sequence.below(largest)),
     }
 }
 
 fn run(form: Form, size: u32, count: u32, seed: u64) {
     let mut sequence = Sequence::new(seed);
     let mut heap = Heap::fresh(form, size, count);
+    let largest = form.of(size, size - 8);
     heap.check();
     for _ in 0..300 {
         let index = sequence.below(count) as usize;
-        match sequence.below(4) {
-            0 => heap.allocate(some_grant(&mut sequence, size)),
+        match sequence.below(5) {
+            4 => {
+                heap.ask_too_much(0);
+                heap.ask_too_much(largest + 1 + sequence.below(20));
+            }
+            0 => heap.allocate(some_grant(&mut sequence, largest)),
             1 => {
-                let some = some_grant(&mut sequence, size);
+                let some = some_grant(&mut sequence, largest);
                 heap.free(index, some);
             }
             2 => {

@@ -1,7 +1,10 @@
-//! Images with the low byte first, every expected byte written out.
+//! Kernel images with the low byte first, every expected byte written out.
 
 use crate::image::*;
 use reference::*;
+
+/// Where the records start in their area.
+const RECORD: [usize; 3] = [0, 96, 192];
 
 /// The dump with its words turned. The guard of buffer 1 is the byte bb at offset 20
 /// of its chunk, before three bytes of the fill fe ca dd ba.
@@ -46,6 +49,7 @@ const LOW_RECORDS: [[u8; 28]; 3] = [
 fn granted_chunk(grant: Grant) -> Vec<u8> {
     let mut image = dump(Form::Low);
     let answer = allocate(
+        Profile::Kernel,
         &mut image.sheet,
         &mut image.heap,
         &mut image.records,
@@ -77,7 +81,7 @@ fn dump_has_the_same_report_of_64_bytes() {
         records[record..][..28].copy_from_slice(&first);
     }
     let sheet = dump(Form::Low).sheet;
-    let text = report_text(&sheet, &LOW_HEAP, &records, &[]).unwrap();
+    let text = report_text(Profile::Kernel, &sheet, &LOW_HEAP, &records, &[]).unwrap();
     assert_eq!(text, DUMP_REPORT);
     assert_eq!(text.len(), 64);
 }
@@ -87,7 +91,14 @@ fn guard_turned_with_its_word_is_missed_at_its_offset() {
     // The word 0xbbddcafe with the low byte first has bb at 23 and fe at 20.
     let mut image = dump(Form::Low);
     image.heap[CHUNK[1] + 20..][..4].copy_from_slice(&[0xfe, 0xca, 0xdd, 0xbb]);
-    let text = report_text(&image.sheet, &image.heap, &image.records, &[]).unwrap();
+    let text = report_text(
+        Profile::Kernel,
+        &image.sheet,
+        &image.heap,
+        &image.records,
+        &[],
+    )
+    .unwrap();
     assert_eq!(
         text,
         "heap report 1\n0 free\n1 fault 28 20\n2 free\nchain 2 end\nfaults 1\n"
@@ -100,7 +111,14 @@ fn fill_of_the_other_order() {
     let mut image = dump(Form::Low);
     image.heap[..4].copy_from_slice(&[0xde, 0xad, 0xbe, 0xef]);
     image.heap[CHUNK[2] + R1..][..4].copy_from_slice(&[0xfe, 0xed, 0xfa, 0xce]);
-    let text = report_text(&image.sheet, &image.heap, &image.records, &[]).unwrap();
+    let text = report_text(
+        Profile::Kernel,
+        &image.sheet,
+        &image.heap,
+        &image.records,
+        &[],
+    )
+    .unwrap();
     assert_eq!(
         text,
         "heap report 1\n0 fault 25 0\n1 allocated 20\n2 fault 26 28\nchain 2 end\nfaults 2\n"
@@ -162,6 +180,7 @@ fn allocate_writes_stamp_and_thread_low_and_head_high() {
     expected.records[RECORD[2] + 16..][..12].copy_from_slice(&stamp_and_thread);
     expected.sheet[39..43].copy_from_slice(&[0x70, 0xae, 0x31, 0xa0]);
     let answer = allocate(
+        Profile::Kernel,
         &mut image.sheet,
         &mut image.heap,
         &mut image.records,
@@ -196,6 +215,7 @@ fn free_writes_every_word_low_and_head_high() {
     expected.records[RECORD[1] + 16..][..12].copy_from_slice(&stamp_and_thread);
     expected.sheet[39..43].copy_from_slice(&[0x70, 0xae, 0x32, 0x00]);
     let answer = free(
+        Profile::Kernel,
         &mut image.sheet,
         &mut image.heap,
         &mut image.records,
@@ -219,9 +239,18 @@ fn log_rows() {
         0x60, 0x32, 0xae, 0x70, 0xf0, 0xff, 0xff, 0xff, 0x01, 0, 0, 0, 0x02, 0, 0, 0,
         0x70, 0xae, 0x32, 0x60, 0x10, 0x00, 0x00, 0x00, 0x01, 0, 0, 0, 0x01, 0, 0, 0,
     ];
-    let answer = latest(&image.sheet, &image.heap, &image.records, &log, 0, 0x10);
+    let answer = latest(
+        Profile::Kernel,
+        &image.sheet,
+        &image.heap,
+        &image.records,
+        &log,
+        0,
+        0x10,
+    );
     assert_eq!(answer, Ok(Latest::Row(0)));
     let answer = latest(
+        Profile::Kernel,
         &image.sheet,
         &image.heap,
         &image.records,
@@ -231,6 +260,7 @@ fn log_rows() {
     );
     assert_eq!(answer, Ok(Latest::Row(0)));
     let answer = latest(
+        Profile::Kernel,
         &image.sheet,
         &image.heap,
         &image.records,
@@ -253,9 +283,26 @@ fn both_forms_of_the_high_order_agree() {
             records,
             ..
         } = image;
-        let answer = allocate(sheet, heap, records, Grant::Sized(24), UPTIME, THREAD_WORD);
+        let answer = allocate(
+            Profile::Kernel,
+            sheet,
+            heap,
+            records,
+            Grant::Sized(24),
+            UPTIME,
+            THREAD_WORD,
+        );
         assert_eq!(answer, Ok(BUFFER_0));
-        let answer = free(sheet, heap, records, BUFFER_1, Grant::Sized(20), 1, 2);
+        let answer = free(
+            Profile::Kernel,
+            sheet,
+            heap,
+            records,
+            BUFFER_1,
+            Grant::Sized(20),
+            1,
+            2,
+        );
         assert_eq!(answer, Ok(()));
     }
     assert_eq!(short.heap, long.heap);

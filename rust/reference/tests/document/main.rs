@@ -15,4 +15,5 @@ mod refusals;
 mod report;
 mod sheet;
 mod store_show;
+mod userland;
 mod verdicts;

@@ -1,12 +1,17 @@
-//! The report program, on whole, cut and endless input, in every form.
+//! The report program, on whole, cut and endless input, in every form of the old profile.
 
 use std::fs::File;
 use std::io::Write;
 use std::process::{Command, Stdio};
 use std::thread;
 
-use crate::image::{blank, dump, put_sheet, refused, Form, Image, DUMP_REPORT, FORMS, LONG_FORMS};
-use reference::{area_lengths, lay_out, program};
+use crate::image::{
+    dump, fresh, put_sheet, refused, Form, Image, DUMP_REPORT, KERNEL_FORMS, USER_FORMS,
+};
+use reference::{area_lengths, program, Profile};
+
+/// The forms that lay out writes.
+const LONG_FORMS: [Form; 2] = [Form::High, Form::Low];
 
 /// Far more than a pipe holds and the program may read.
 const MUCH: usize = 1 << 22;
@@ -52,13 +57,13 @@ fn written(input: &[u8]) -> String {
 fn unlawful_sheet(form: Form) -> Vec<u8> {
     let mut sheet = dump(form).sheet;
     put_sheet(&mut sheet, 10, 0);
-    assert_eq!(area_lengths(&sheet), refused(2));
+    assert_eq!(area_lengths(Profile::Kernel, &sheet), refused(2));
     sheet
 }
 
 #[test]
 fn dump_without_and_with_a_log() {
-    for form in FORMS {
+    for form in KERNEL_FORMS {
         let input = input_of(&dump(form));
         assert_eq!(run(input.clone()).0, DUMP_REPORT);
         for length in [16, 16_384] {
@@ -70,7 +75,7 @@ fn dump_without_and_with_a_log() {
 
 #[test]
 fn input_cut_anywhere() {
-    for form in FORMS {
+    for form in KERNEL_FORMS {
         let whole = [input_of(&dump(form)), vec![0; 32]].concat();
         let sheet_end = 1 + dump(form).sheet.len();
         let records_end = sheet_end + 120 + 288;
@@ -140,7 +145,7 @@ fn longer_sheet_behind_the_short_length_byte() {
 fn length_byte_of_neither_form() {
     for length in (0..=255).filter(|length| ![48, 52].contains(length)) {
         assert_eq!(written(&[length]), "refused 1\n", "{length}");
-        for form in FORMS {
+        for form in KERNEL_FORMS {
             let mut input = [input_of(&dump(form)), vec![0; 256]].concat();
             input[0] = length;
             assert_eq!(written(&input), "refused 1\n", "{form:?} {length}");
@@ -153,7 +158,7 @@ fn input_without_a_length_byte() {
     assert_eq!(written(&[]), "refused 1\n");
     assert_eq!(run(Vec::new()).0, "refused 1\n");
     // The input of the program before: its first byte, tag 1, is taken for the length.
-    for form in FORMS {
+    for form in KERNEL_FORMS {
         let input = input_of(&dump(form));
         assert_eq!(written(&input[1..]), "refused 1\n");
     }
@@ -161,7 +166,7 @@ fn input_without_a_length_byte() {
 
 #[test]
 fn unlawful_sheet_with_nothing_after_it() {
-    for form in FORMS {
+    for form in KERNEL_FORMS {
         let sheet = unlawful_sheet(form);
         let input = [&[sheet.len() as u8], &sheet[..]].concat();
         assert_eq!(run(input).0, "refused 2\n");
@@ -187,7 +192,7 @@ fn values_of_tag_9() {
 
 #[test]
 fn long_input_is_not_read_to_its_end() {
-    for form in FORMS {
+    for form in KERNEL_FORMS {
         let unlawful = unlawful_sheet(form);
         let cases = [
             (vec![0; 53], "refused 1\n"),
@@ -211,19 +216,7 @@ fn long_input_is_not_read_to_its_end() {
 #[test]
 fn longest_input() {
     for form in LONG_FORMS {
-        let mut image = blank(form, 65_536, 49_152);
-        lay_out(
-            form.order(),
-            0,
-            0x10_0000,
-            0x20_0000,
-            112,
-            512,
-            &mut image.sheet,
-            &mut image.heap,
-            &mut image.records,
-        )
-        .unwrap();
+        let image = fresh(form, 0x10_0000, 0x20_0000, 112, 512);
         let input = [input_of(&image), vec![0; 16_384]].concat();
         let (text, _) = run(input.clone());
         assert!(text.starts_with("heap report 1\n0 free\n"));
@@ -237,11 +230,28 @@ fn longest_input() {
 
 #[test]
 fn log_too_long() {
-    for form in FORMS {
+    for form in KERNEL_FORMS {
         for length in [16_385, 16_400] {
             let longer = [input_of(&dump(form)), vec![0; length]].concat();
             assert_eq!(run(longer).0, "refused 3\n");
         }
+    }
+}
+
+/// "The program keeps the old one." The userland dump has 300 record bytes, so 12 bytes
+/// are left for the log, no row; with 4 more it is one row. Record 1 starts one word
+/// early: its address word is the next word there, 0x70ae31a0; and record 2 two words
+/// early: its address word is the last stack word of record 1, 0x202. The head
+/// 0x70ae3268 is no record's address, and buffer 2's own record, 0, isn't met.
+#[test]
+fn userland_image() {
+    for form in USER_FORMS {
+        let input = input_of(&dump(form));
+        assert_eq!(written(&input), "refused 3\n");
+        let longer = [input, vec![0; 4]].concat();
+        let text = "heap report 1\n0 fault 20\n1 fault 20\n2 fault 23\nchain 0 broken\nfaults 3\n";
+        assert_eq!(written(&longer), text);
+        assert_eq!(run(longer).0, text);
     }
 }
 

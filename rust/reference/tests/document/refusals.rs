@@ -1,4 +1,4 @@
-//! "Order: 1, 2, 3 always", for every call that reads a sheet.
+//! "Order: 1, 2, 3 always", for every call that reads a sheet, under both profiles.
 
 use crate::image::*;
 use reference::*;
@@ -6,6 +6,7 @@ use reference::*;
 /// The refusal number of each call on an image, each call having a later refusal too;
 /// every byte is as before.
 fn numbers(image: &Image) -> [u8; 8] {
+    let profile = image.form.profile();
     let mut changed = image.clone();
     let Image {
         sheet,
@@ -14,14 +15,14 @@ fn numbers(image: &Image) -> [u8; 8] {
         ..
     } = &mut changed;
     let answers = [
-        chain(sheet, heap, records).map(|_| ()),
-        inspect(sheet, heap, records, &mut []).map(|_| ()),
-        latest(sheet, heap, records, &[0], u32::MAX, 0).map(|_| ()),
-        report(sheet, heap, records, &[0], &mut []).map(|_| ()),
-        allocate(sheet, heap, records, Grant::Sized(0), 1, 1).map(|_| ()),
-        free(sheet, heap, records, 1, Grant::Whole, 1, 1),
-        store(sheet, heap, records, 1, 0, &[1]),
-        show(sheet, heap, records, 1).map(|_| ()),
+        chain(profile, sheet, heap, records).map(|_| ()),
+        inspect(profile, sheet, heap, records, &mut []).map(|_| ()),
+        latest(profile, sheet, heap, records, &[0], u32::MAX, 0).map(|_| ()),
+        report(profile, sheet, heap, records, &[0], &mut []).map(|_| ()),
+        allocate(profile, sheet, heap, records, Grant::Sized(0), 1, 1).map(|_| ()),
+        free(profile, sheet, heap, records, 1, Grant::Whole, 1, 1),
+        store(profile, sheet, heap, records, 1, 0, &[1]),
+        show(profile, sheet, heap, records, 1).map(|_| ()),
     ];
     assert_eq!(changed, *image);
     answers.map(|answer| {
@@ -75,9 +76,11 @@ fn refusal_1_by_neither_form() {
         }
     }
     for field in [[10, 0, 1, 0], [9, 0, 2, 0], [9, 1, 1, 1], [0, 0, 0, 0]] {
-        let mut image = dump(Form::Short);
-        image.sheet.extend(field);
-        assert_eq!(numbers(&image), [1; 8]);
+        for form in [Form::Short, Form::UserShort] {
+            let mut image = dump(form);
+            image.sheet.extend(field);
+            assert_eq!(numbers(&image), [1; 8]);
+        }
     }
 }
 
@@ -90,10 +93,27 @@ fn refusal_3_comes_before_the_rest() {
             assert_eq!(numbers(&image), [3; 8]);
 
             let mut image = dump(form);
-            image
-                .records
-                .resize(288usize.wrapping_add_signed(change), 0);
+            let length = form.record_length().wrapping_add_signed(change);
+            image.records.resize(length, 0);
             assert_eq!(numbers(&image), [3; 8]);
         }
+    }
+}
+
+/// The records of each profile are too short or too long for the other: refusal 3.
+#[test]
+fn image_read_under_the_other_profile() {
+    let others = [
+        Form::UserShort,
+        Form::UserHigh,
+        Form::UserLow,
+        Form::Short,
+        Form::High,
+        Form::Low,
+    ];
+    for (form, other) in FORMS.into_iter().zip(others) {
+        let mut image = dump(form);
+        image.form = other;
+        assert_eq!(numbers(&image), [3; 8]);
     }
 }

@@ -1,19 +1,32 @@
-//! The report's text.
+//! The report's text, under both profiles.
 
 use crate::image::*;
-use reference::{lay_out, report};
+use reference::report;
 
 fn text(image: &Image) -> String {
     let mut output = [0; 16_384];
-    let length = report(&image.sheet, &image.heap, &image.records, &[], &mut output).unwrap();
+    let length = report(
+        image.form.profile(),
+        &image.sheet,
+        &image.heap,
+        &image.records,
+        &[],
+        &mut output,
+    )
+    .unwrap();
     String::from_utf8(output[..length].to_vec()).unwrap()
+}
+
+/// The whole report on the dump.
+fn dump_report(form: Form) -> &'static str {
+    form.of(DUMP_REPORT, USER_REPORT)
 }
 
 #[test]
 fn dump_report_is_64_bytes() {
     for form in FORMS {
-        assert_eq!(DUMP_REPORT.len(), 64);
-        assert_eq!(text(&dump(form)), DUMP_REPORT);
+        assert_eq!(dump_report(form).len(), 64);
+        assert_eq!(text(&dump(form)), dump_report(form));
     }
 }
 
@@ -22,12 +35,26 @@ fn output_of_the_exact_need_is_enough_and_one_less_is_refusal_11() {
     for form in FORMS {
         let image = dump(form);
         let mut exact = [b'x'; 64];
-        let answer = report(&image.sheet, &image.heap, &image.records, &[], &mut exact);
+        let answer = report(
+            image.form.profile(),
+            &image.sheet,
+            &image.heap,
+            &image.records,
+            &[],
+            &mut exact,
+        );
         assert_eq!(answer, Ok(64));
-        assert_eq!(&exact, DUMP_REPORT.as_bytes());
+        assert_eq!(&exact, dump_report(form).as_bytes());
 
         let mut short = [b'x'; 63];
-        let answer = report(&image.sheet, &image.heap, &image.records, &[], &mut short);
+        let answer = report(
+            image.form.profile(),
+            &image.sheet,
+            &image.heap,
+            &image.records,
+            &[],
+            &mut short,
+        );
         assert_eq!(answer, refused(11));
         assert_eq!(short, [b'x'; 63]);
     }
@@ -38,7 +65,14 @@ fn output_past_the_report_stays() {
     for form in FORMS {
         let image = dump(form);
         let mut output = [b'x'; 100];
-        let answer = report(&image.sheet, &image.heap, &image.records, &[], &mut output);
+        let answer = report(
+            image.form.profile(),
+            &image.sheet,
+            &image.heap,
+            &image.records,
+            &[],
+            &mut output,
+        );
         assert_eq!(answer, Ok(64));
         assert_eq!(output[64..], [b'x'; 36]);
     }
@@ -58,7 +92,14 @@ fn refusal_3_log_of_wrong_length() {
         for (length, is_lawful) in lengths {
             let log = vec![0xff; length];
             let mut output = [b'x'; 64];
-            let answer = report(&image.sheet, &image.heap, &image.records, &log, &mut output);
+            let answer = report(
+                image.form.profile(),
+                &image.sheet,
+                &image.heap,
+                &image.records,
+                &log,
+                &mut output,
+            );
             if is_lawful {
                 assert_eq!(answer, Ok(64));
             } else {
@@ -73,7 +114,14 @@ fn refusal_3_log_of_wrong_length() {
 fn refusal_3_comes_before_11() {
     for form in FORMS {
         let image = dump(form);
-        let answer = report(&image.sheet, &image.heap, &image.records, &[0], &mut []);
+        let answer = report(
+            image.form.profile(),
+            &image.sheet,
+            &image.heap,
+            &image.records,
+            &[0],
+            &mut [],
+        );
         assert_eq!(answer, refused(3));
     }
 }
@@ -110,14 +158,30 @@ fn whole_and_guard_fault() {
     }
 }
 
+/// "`I fault V` or, for 25, 26 and 28, `I fault V OFFSET`": 30 has no offset.
+#[test]
+fn header_fault() {
+    for form in USER_FORMS {
+        let mut image = dump(form);
+        image.heap[CHUNK[1] + 7] ^= 1;
+        assert_eq!(
+            text(&image),
+            "heap report 1\n0 free\n1 fault 30\n2 free\nchain 2 end\nfaults 1\n"
+        );
+    }
+}
+
 #[test]
 fn broken_chain_is_no_fault_line_of_its_own() {
     for form in FORMS {
         let mut image = dump(form);
-        image.put_record(RECORD[0] + NEXT, 5);
+        image.put_record(form.place(0) + NEXT, 5);
         assert_eq!(
             text(&image),
-            "heap report 1\n0 free\n1 allocated 20\n2 free\nchain 2 broken\nfaults 0\n"
+            form.of(
+                "heap report 1\n0 free\n1 allocated 20\n2 free\nchain 2 broken\nfaults 0\n",
+                "heap report 1\n0 free\n1 allocated 12\n2 free\nchain 2 broken\nfaults 0\n",
+            )
         );
     }
 }
@@ -126,10 +190,13 @@ fn broken_chain_is_no_fault_line_of_its_own() {
 fn again_names_the_record_and_not_the_buffer() {
     for form in FORMS {
         let mut image = dump(form);
-        image.put_record(RECORD[0] + NEXT, RECORD_2);
+        image.put_record(form.place(0) + NEXT, form.record(2));
         assert_eq!(
             text(&image),
-            "heap report 1\n0 fault 22\n1 allocated 20\n2 free\nchain 2 again 2\nfaults 1\n"
+            form.of(
+                "heap report 1\n0 fault 22\n1 allocated 20\n2 free\nchain 2 again 2\nfaults 1\n",
+                "heap report 1\n0 fault 22\n1 allocated 12\n2 free\nchain 2 again 2\nfaults 1\n",
+            )
         );
     }
 }
@@ -139,7 +206,10 @@ fn chain_of_none() {
     for form in FORMS {
         assert_eq!(
             text(&dump_with_head(form, 0)),
-            "heap report 1\n0 fault 23\n1 allocated 20\n2 fault 23\nchain 0 end\nfaults 2\n"
+            form.of(
+                "heap report 1\n0 fault 23\n1 allocated 20\n2 fault 23\nchain 0 end\nfaults 2\n",
+                "heap report 1\n0 fault 23\n1 allocated 12\n2 fault 23\nchain 0 end\nfaults 2\n",
+            )
         );
     }
 }
@@ -147,19 +217,7 @@ fn chain_of_none() {
 #[test]
 fn decimals_of_two_and_three_figures() {
     for form in LONG_FORMS {
-        let mut image = blank(form, 101 * 24, 101 * 96);
-        lay_out(
-            form.order(),
-            1,
-            0x1000,
-            0x8000,
-            8,
-            101,
-            &mut image.sheet,
-            &mut image.heap,
-            &mut image.records,
-        )
-        .unwrap();
+        let image = fresh(form, 0x1000, 0x8000, 8, 101);
         let mut expected = String::from("heap report 1\n");
         for index in 0..=100 {
             expected += &index.to_string();

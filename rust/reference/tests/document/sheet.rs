@@ -1,8 +1,10 @@
-//! Refusals 1 and 2: the sheet's two forms and its limits, on both sides of each.
+//! Refusals 1 and 2: the sheet's two forms and its limits, on both sides of each, under
+//! both profiles.
 
-use crate::image::{dump, put_sheet, refused, Form, FORMS, LONG_FORMS, RECORD};
+use crate::image::{dump, put_sheet, refused, Form, FORMS, KERNEL_FORMS, LONG_FORMS, USER_FORMS};
 use reference::{
-    area_lengths, chain, sheet_order, Chain, Ending, Order, SHEET_LENGTH, SHORT_SHEET_LENGTH,
+    area_lengths, chain, sheet_order, Chain, Ending, Order, Profile, SHEET_LENGTH,
+    SHORT_SHEET_LENGTH,
 };
 
 /// The numbers of a sheet, of which each case changes a few.
@@ -18,7 +20,8 @@ struct Numbers {
     flags: u16,
 }
 
-/// Heap 0x1000 to 0x1078 (120 bytes), records 0x2000 to 0x2120 (288 bytes).
+/// Heap 0x1000 to 0x1078 (120 bytes), records 0x2000 to 0x2120 (288 bytes), or to 0x212c
+/// (300 bytes) under the userland profile.
 const PLAIN: Numbers = Numbers {
     cache: 0x100,
     heap_base: 0x1000,
@@ -52,39 +55,58 @@ fn sheet(form: Form, numbers: Numbers) -> Vec<u8> {
     bytes
 }
 
-/// Accepted in every form, and its order found.
-fn accepts(numbers: Numbers, heap_length: usize, record_length: usize) {
-    for form in FORMS {
-        let sheet = sheet(form, numbers);
-        assert_eq!(area_lengths(&sheet), Ok((heap_length, record_length)));
+/// Accepted in these forms, and its order found.
+fn accepted_in(forms: &[Form], numbers: Numbers, heap_length: usize, record_length: usize) {
+    for form in forms {
+        let sheet = sheet(*form, numbers);
+        let lengths = area_lengths(form.profile(), &sheet);
+        assert_eq!(lengths, Ok((heap_length, record_length)));
         assert_eq!(sheet_order(&sheet), Ok(form.order()));
         let heap = vec![0; heap_length];
         let records = vec![0; record_length];
-        assert!(chain(&sheet, &heap, &records).is_ok());
+        assert!(chain(form.profile(), &sheet, &heap, &records).is_ok());
     }
 }
 
-/// Refusal 2 in every form.
+/// Accepted in every form: n records are 96 bytes each, or 100.
+fn accepts(numbers: Numbers, heap_length: usize, record_length: usize) {
+    let user_length = usize::from(numbers.count) * 100;
+    accepted_in(&KERNEL_FORMS, numbers, heap_length, record_length);
+    accepted_in(&USER_FORMS, numbers, heap_length, user_length);
+}
+
+/// Refusal 2 in every form, by the order's reading too.
 fn refuses(numbers: Numbers) {
+    refused_in(&FORMS, numbers);
     for form in FORMS {
-        let sheet = sheet(form, numbers);
-        assert_eq!(area_lengths(&sheet), refused(2));
-        assert_eq!(sheet_order(&sheet), refused(2));
-        assert_eq!(chain(&sheet, &[], &[]), refused(2));
+        assert_eq!(sheet_order(&sheet(form, numbers)), refused(2));
+    }
+}
+
+/// Refusal 2 in these forms.
+fn refused_in(forms: &[Form], numbers: Numbers) {
+    for form in forms {
+        let sheet = sheet(*form, numbers);
+        assert_eq!(area_lengths(form.profile(), &sheet), refused(2));
+        assert_eq!(chain(form.profile(), &sheet, &[], &[]), refused(2));
     }
 }
 
 /// Refusal 1 of a sheet, by every way to read it.
 fn has_neither_form(sheet: &[u8]) {
-    assert_eq!(area_lengths(sheet), refused(1), "{sheet:?}");
     assert_eq!(sheet_order(sheet), refused(1));
-    assert_eq!(chain(sheet, &[0; 120], &[0; 288]), refused(1));
+    for (profile, length) in [(Profile::Kernel, 288), (Profile::Userland, 300)] {
+        assert_eq!(area_lengths(profile, sheet), refused(1), "{sheet:?}");
+        let answer = chain(profile, sheet, &[0; 120], &vec![0; length]);
+        assert_eq!(answer, refused(1));
+    }
 }
 
 #[test]
 fn the_two_lengths() {
     assert_eq!((SHEET_LENGTH, SHORT_SHEET_LENGTH), (52, 48));
-    assert_eq!(FORMS.map(|form| dump(form).sheet.len()), [48, 52, 52]);
+    let lengths = FORMS.map(|form| dump(form).sheet.len());
+    assert_eq!(lengths, [48, 52, 52, 48, 52, 52]);
 }
 
 #[test]
@@ -105,7 +127,10 @@ fn tag_9_is_0_or_1() {
             _ => refused(2),
         };
         assert_eq!(sheet_order(&sheet), expected, "{value}");
-        assert_eq!(area_lengths(&sheet), expected.map(|_| (120, 288)));
+        let kernel = area_lengths(Profile::Kernel, &sheet);
+        assert_eq!(kernel, expected.map(|_| (120, 288)));
+        let userland = area_lengths(Profile::Userland, &sheet);
+        assert_eq!(userland, expected.map(|_| (120, 300)));
     }
 }
 
@@ -205,7 +230,8 @@ fn tags_out_of_order_are_refused() {
         let mut sheet = image.sheet[7..14].to_vec();
         sheet.extend(&image.sheet[..7]);
         sheet.extend(&image.sheet[14..]);
-        assert_eq!(chain(&sheet, &image.heap, &image.records), refused(1));
+        let answer = chain(form.profile(), &sheet, &image.heap, &image.records);
+        assert_eq!(answer, refused(1));
     }
 }
 
@@ -306,11 +332,14 @@ fn base_plus_length_is_at_most_2_to_the_32() {
         record_base,
         ..PLAIN
     };
-    // 2^32 - 120 and 2^32 - 288.
+    // 2^32 - 120 and 2^32 - 288; 2^32 - 300 is no multiple of 8, and 2^32 - 304 is.
     accepts(heap(0xffff_ff88), 120, 288);
     refuses(heap(0xffff_ff90));
     refuses(heap(0xffff_fff8));
-    accepts(records(0xffff_fee0), 120, 288);
+    accepted_in(&KERNEL_FORMS, records(0xffff_fee0), 120, 288);
+    accepted_in(&USER_FORMS, records(0xffff_fed0), 120, 300);
+    refused_in(&USER_FORMS, records(0xffff_fed8));
+    refused_in(&USER_FORMS, records(0xffff_fee0));
     refuses(records(0xffff_fee8));
     refuses(records(0xffff_fff8));
 }
@@ -324,7 +353,11 @@ fn ranges_share_no_address() {
     };
     accepts(at(0x1000, 0x1078), 120, 288);
     refuses(at(0x1000, 0x1070));
-    accepts(at(0x1120, 0x1000), 120, 288);
+    // 0x1000 + 288 = 0x1120 and 0x1000 + 300 = 0x112c.
+    accepted_in(&KERNEL_FORMS, at(0x1120, 0x1000), 120, 288);
+    accepts(at(0x1130, 0x1000), 120, 288);
+    refused_in(&USER_FORMS, at(0x1128, 0x1000));
+    refused_in(&USER_FORMS, at(0x1120, 0x1000));
     refuses(at(0x1118, 0x1000));
     refuses(at(0x1000, 0x1000));
     refuses(at(0x1080, 0x1000));
@@ -345,23 +378,51 @@ fn cache_and_head_may_be_any_number() {
     }
 }
 
+/// Three records of 96 bytes, or two of 100, which are the multiple of 8.
 #[test]
 fn last_record_may_end_at_2_to_the_32() {
-    for form in FORMS {
-        let numbers = Numbers {
-            record_base: 0xffff_fee0,
-            head: 0xffff_ffa0,
-            ..PLAIN
-        };
+    let kernel = Numbers {
+        record_base: 0xffff_fee0,
+        head: 0xffff_ffa0,
+        ..PLAIN
+    };
+    for form in KERNEL_FORMS {
         let mut records = vec![0; 288];
-        form.put(&mut records, RECORD[2], 0xffff_fee0);
+        form.put(&mut records, 192, 0xffff_fee0);
         let expected = Chain {
             met: vec![2, 0],
             ending: Ending::End,
         };
-        assert_eq!(
-            chain(&sheet(form, numbers), &[0; 120], &records),
-            Ok(expected)
-        );
+        let answer = chain(form.profile(), &sheet(form, kernel), &[0; 120], &records);
+        assert_eq!(answer, Ok(expected));
+    }
+
+    let userland = Numbers {
+        record_base: 0xffff_ff38,
+        head: 0xffff_ff9c,
+        count: 2,
+        ..PLAIN
+    };
+    for form in USER_FORMS {
+        let mut records = vec![0; 200];
+        form.put(&mut records, 100, 0xffff_ff38);
+        let expected = Chain {
+            met: vec![1, 0],
+            ending: Ending::End,
+        };
+        let answer = chain(form.profile(), &sheet(form, userland), &[0; 80], &records);
+        assert_eq!(answer, Ok(expected));
+    }
+}
+
+/// Where only the kernel profile takes a sheet, the order is found all the same.
+#[test]
+fn order_of_a_sheet_for_shorter_records_only() {
+    let numbers = Numbers {
+        record_base: 0xffff_fee0,
+        ..PLAIN
+    };
+    for form in FORMS {
+        assert_eq!(sheet_order(&sheet(form, numbers)), Ok(form.order()));
     }
 }

@@ -1,10 +1,11 @@
-//! Store and show: the client's bytes and what is refused, in order.
+//! Store and show: the client's bytes and what is refused, in order, under both profiles.
 
 use crate::image::*;
-use reference::{show, store, Refusal};
+use reference::{show, store, Refusal, Shown};
 
 fn stored(image: &mut Image, address: u32, offset: u32, bytes: &[u8]) -> Result<(), Refusal> {
     store(
+        image.form.profile(),
         &image.sheet,
         &mut image.heap,
         &image.records,
@@ -14,8 +15,14 @@ fn stored(image: &mut Image, address: u32, offset: u32, bytes: &[u8]) -> Result<
     )
 }
 
-fn shown(image: &Image, address: u32) -> Result<&[u8], Refusal> {
-    show(&image.sheet, &image.heap, &image.records, address)
+fn shown(image: &Image, address: u32) -> Result<Shown<'_>, Refusal> {
+    show(
+        image.form.profile(),
+        &image.sheet,
+        &image.heap,
+        &image.records,
+        address,
+    )
 }
 
 /// Expects the same refusal of a store and a show, and every byte as before.
@@ -36,26 +43,44 @@ fn passes_the_end(mut image: Image, offset: u32, length: usize) {
     assert_eq!(image, before);
 }
 
+/// Where in the heap the client's bytes of the dump's buffer 1 start: with the buffer,
+/// or after its header.
+fn client_start(form: Form) -> usize {
+    form.of(40, 48)
+}
+
 #[test]
-fn show_of_a_sized_grant_is_its_first_bytes() {
+fn show_of_a_sized_grant_is_the_bytes_asked_for() {
     for form in FORMS {
         let image = dump(form);
         let client = shown(&image, BUFFER_1).unwrap();
-        assert_eq!(client, form.words(&[5, 0x4ef83, 0, 0, 1]));
-        assert_eq!(client.as_ptr(), image.heap[40..].as_ptr());
+        let words = form.of(&[5, 0x4ef83, 0, 0, 1][..], &[5, 0x4ef83, 1]);
+        assert_eq!(client.bytes, form.words(words));
+        assert_eq!(client.offset, form.of(0, 8));
+        let start = client_start(form);
+        assert_eq!(client.bytes.as_ptr(), image.heap[start..].as_ptr());
     }
 }
 
 #[test]
-fn show_of_a_whole_and_of_a_full_size_grant_is_the_buffer() {
+fn show_of_a_full_size_grant_reaches_the_redzone() {
     for form in FORMS {
-        let buffer = dump(form).heap[40..64].to_vec();
-        for (r0, r1) in [(0xfeedface, 0xfeedface), (full_r0(form), 0x1789)] {
-            assert_eq!(
-                shown(&dump_with_redzone(form, r0, r1), BUFFER_1),
-                Ok(&buffer[..])
-            );
-        }
+        let image = dump_full(form);
+        let client = shown(&image, BUFFER_1).unwrap();
+        assert_eq!(client.bytes, &image.heap[client_start(form)..64]);
+        assert_eq!(client.offset, form.of(0, 8));
+    }
+}
+
+#[test]
+fn show_of_a_whole_grant_is_the_buffer() {
+    for form in FORMS {
+        let image = dump_whole(form);
+        let client = Shown {
+            offset: 0,
+            bytes: &image.heap[40..64],
+        };
+        assert_eq!(shown(&image, BUFFER_1), Ok(client));
     }
 }
 
@@ -64,23 +89,33 @@ fn store_writes_its_bytes_and_no_other() {
     for form in FORMS {
         let mut image = dump(form);
         let mut expected = dump(form);
-        expected.heap[CHUNK[1] + 7] = 0xaa;
-        expected.heap[CHUNK[1] + 8] = 0xab;
+        expected.heap[client_start(form) + 7] = 0xaa;
+        expected.heap[client_start(form) + 8] = 0xab;
         assert_eq!(stored(&mut image, BUFFER_1, 7, &[0xaa, 0xab]), Ok(()));
         assert_eq!(image, expected);
     }
 }
 
 #[test]
-fn store_reaches_the_last_client_byte() {
+fn store_reaches_the_first_and_the_last_client_byte() {
     for form in FORMS {
-        let mut image = dump(form);
-        let mut expected = dump(form);
-        expected.heap[CHUNK[1] + 19] = 0xaa;
-        assert_eq!(stored(&mut image, BUFFER_1, 19, &[0xaa]), Ok(()));
+        // The guard of the dump's grant is byte 20 of its chunk.
+        for (offset, at) in [(0, form.of(0, 8)), (form.of(19, 11), 19)] {
+            let mut image = dump(form);
+            let mut expected = dump(form);
+            expected.heap[CHUNK[1] + at] = 0xaa;
+            assert_eq!(stored(&mut image, BUFFER_1, offset, &[0xaa]), Ok(()));
+            assert_eq!(image, expected);
+        }
+
+        let mut image = dump_full(form);
+        let mut expected = image.clone();
+        expected.heap[client_start(form)..64].fill(0xaa);
+        let bytes = vec![0xaa; full_size(form) as usize];
+        assert_eq!(stored(&mut image, BUFFER_1, 0, &bytes), Ok(()));
         assert_eq!(image, expected);
 
-        let mut image = dump_with_redzone(form, 0xfeedface, 0xfeedface);
+        let mut image = dump_whole(form);
         let mut expected = image.clone();
         expected.heap[CHUNK[1]..CHUNK[1] + 24].fill(0xaa);
         assert_eq!(stored(&mut image, BUFFER_1, 0, &[0xaa; 24]), Ok(()));
@@ -92,7 +127,7 @@ fn store_reaches_the_last_client_byte() {
 fn empty_store_up_to_the_end_is_accepted() {
     for form in FORMS {
         let mut image = dump(form);
-        for offset in [0, 19, 20] {
+        for offset in [0, dump_size(form) - 1, dump_size(form)] {
             assert_eq!(stored(&mut image, BUFFER_1, offset, &[]), Ok(()));
             assert_eq!(image, dump(form));
         }
@@ -102,13 +137,27 @@ fn empty_store_up_to_the_end_is_accepted() {
 #[test]
 fn refusal_10_store_passes_the_clients_bytes() {
     for form in FORMS {
-        passes_the_end(dump(form), 20, 1);
-        passes_the_end(dump(form), 19, 2);
-        passes_the_end(dump(form), 0, 21);
-        passes_the_end(dump(form), 21, 0);
-        passes_the_end(dump_with_redzone(form, full_r0(form), 0x1789), 24, 1);
-        passes_the_end(dump_with_redzone(form, 0xfeedface, 0xfeedface), 24, 1);
-        passes_the_end(dump_with_redzone(form, 0xfeedface, 0xfeedface), 25, 0);
+        let size = dump_size(form);
+        passes_the_end(dump(form), size, 1);
+        passes_the_end(dump(form), size - 1, 2);
+        passes_the_end(dump(form), 0, size as usize + 1);
+        passes_the_end(dump(form), size + 1, 0);
+        passes_the_end(dump_full(form), full_size(form), 1);
+        passes_the_end(dump_full(form), full_size(form) + 1, 0);
+        passes_the_end(dump_whole(form), 24, 1);
+        passes_the_end(dump_whole(form), 25, 0);
+    }
+}
+
+/// 12 client bytes of a buffer of 24 are out: the offset counts from the first of them,
+/// so the coded size and the buffer size are far beyond their end.
+#[test]
+fn refusal_10_coded_size_is_no_bound() {
+    for form in USER_FORMS {
+        passes_the_end(dump(form), 20, 0);
+        passes_the_end(dump(form), 0, 20);
+        passes_the_end(dump(form), 16, 0);
+        passes_the_end(dump_full(form), 0, 24);
     }
 }
 
@@ -120,6 +169,9 @@ fn refusal_10_store_near_2_to_the_32() {
         passes_the_end(dump(form), u32::MAX, 2);
         passes_the_end(dump(form), 0xffff_fff0, 16);
         passes_the_end(dump(form), 0xffff_fff0, 20);
+        // With the header's length these come to 2^32.
+        passes_the_end(dump(form), 0xffff_fff8, 0);
+        passes_the_end(dump(form), 0xffff_fff8, 8);
     }
 }
 
@@ -140,7 +192,7 @@ fn refusal_7_with_21_tag() {
         both_refuse(image, BUFFER_1, 7, 21);
 
         let mut image = dump(form);
-        image.put_record(RECORD[1] + ADDRESS, BUFFER_2);
+        image.put_record(form.place(1) + ADDRESS, BUFFER_2);
         both_refuse(image, BUFFER_1, 7, 21);
 
         // 0x70ae3208 xor 0xa110c8ed = 0xd1befae5.
@@ -164,6 +216,9 @@ fn refusal_7_with_27_and_28() {
     for form in FORMS {
         both_refuse(dump_with_redzone(form, 0xfeedface, 0x139e), BUFFER_1, 7, 27);
         both_refuse(dump_with_redzone(form, 0xfeedface, 0x1789), BUFFER_1, 7, 28);
+        let mut image = dump_full(form);
+        image.put_heap(CHUNK[1] + R0, 0xfeedface);
+        both_refuse(image, BUFFER_1, 7, 28);
         both_refuse(
             dump_with_redzone(form, full_r0(form), 0x139d),
             BUFFER_1,
@@ -175,6 +230,30 @@ fn refusal_7_with_27_and_28() {
             BUFFER_1,
             7,
             28,
+        );
+    }
+}
+
+#[test]
+fn refusal_7_with_30_header() {
+    for form in USER_FORMS {
+        for at in 0..8 {
+            let mut image = dump(form);
+            image.heap[CHUNK[1] + at] ^= 0x40;
+            both_refuse(image.clone(), BUFFER_1, 7, 30);
+            image.heap[CHUNK[1] + 20] = 0;
+            both_refuse(image, BUFFER_1, 7, 28);
+        }
+        // The header of another coded size, and that of none.
+        let mut image = dump_full(form);
+        image.put_heap(CHUNK[1], 0x14);
+        image.put_heap(CHUNK[1] + 4, 0x3a10bfec);
+        both_refuse(image, BUFFER_1, 7, 30);
+        both_refuse(
+            dump_with_redzone(form, full_r0(form), 0x1789),
+            BUFFER_1,
+            7,
+            30,
         );
     }
 }

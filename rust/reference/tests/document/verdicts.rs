@@ -1,4 +1,4 @@
-//! Verdicts 0 to 28 and the checks P1 to P10, in both orders.
+//! Verdicts 0 to 28 and the checks P1 to P10, in both orders and under both profiles.
 
 use crate::image::*;
 use reference::{inspect, Finding, Verdict};
@@ -6,7 +6,13 @@ use reference::{inspect, Finding, Verdict};
 /// The findings on the three buffers of an image.
 fn findings(image: &Image) -> [Finding; 3] {
     let mut rows = [Finding::default(); 3];
-    let answer = inspect(&image.sheet, &image.heap, &image.records, &mut rows);
+    let answer = inspect(
+        image.form.profile(),
+        &image.sheet,
+        &image.heap,
+        &image.records,
+        &mut rows,
+    );
     assert_eq!(answer, Ok(3));
     rows
 }
@@ -34,7 +40,10 @@ fn allocated_with(form: Form, r0: u32, r1: u32) -> (u32, u32) {
 #[test]
 fn dump_has_free_allocated_20_free() {
     for form in FORMS {
-        assert_eq!(verdicts(&dump(form)), [(0, 0), (2, 20), (0, 0)]);
+        assert_eq!(
+            verdicts(&dump(form)),
+            [(0, 0), (2, dump_size(form)), (0, 0)]
+        );
     }
 }
 
@@ -44,7 +53,7 @@ fn p1_free_pattern() {
         let image = dump(form);
         assert_eq!(
             image.heap[CHUNK[0] + T0..][..8],
-            form.words(&[0x70ae3260, 0x8440c68e])
+            form.words(&form.of([0x70ae3260, 0x8440c68e], [0x70ae3268, 0x8440c686]))
         );
         assert_eq!(verdicts(&image)[0], (0, 0));
     }
@@ -56,27 +65,31 @@ fn p2_allocated_pattern() {
         let image = dump(form);
         assert_eq!(
             image.heap[CHUNK[1] + T0..][..8],
-            form.words(&[0x70ae3200, 0xd1befaed])
+            form.words(&form.of([0x70ae3200, 0xd1befaed], [0x70ae3204, 0xd1befae9]))
         );
-        assert_eq!(verdicts(&image)[1], (2, 20));
+        assert_eq!(verdicts(&image)[1], (2, dump_size(form)));
     }
 }
 
 #[test]
 fn p3_neither_pattern() {
     for form in FORMS {
-        let image = dump_with_heap_word(form, CHUNK[0] + T1, 0x8440c68f);
-        assert_eq!(verdicts(&image), [(21, 0), (2, 20), (0, 0)]);
+        let image = dump_with_heap_word(form, CHUNK[0] + T1, form.of(0x8440c68f, 0x8440c687));
+        assert_eq!(verdicts(&image), [(21, 0), (2, dump_size(form)), (0, 0)]);
     }
 }
 
 #[test]
 fn p4_to_p9_redzone_words_of_the_allocated_pattern() {
     for form in FORMS {
-        assert_eq!(allocated_with(form, 0xfeedface, 0x139d), (2, 20), "P4");
+        assert_eq!(
+            allocated_with(form, 0xfeedface, 0x139d),
+            (2, dump_size(form)),
+            "P4"
+        );
         assert_eq!(allocated_with(form, 0xfeedface, 0x139e), (27, 0), "P5");
         assert_eq!(allocated_with(form, 0xfeedface, 1), (27, 0), "P6");
-        assert_eq!(allocated_with(form, full_r0(form), 0x1789), (2, 24), "P7");
+        assert_eq!(verdicts(&dump_full(form))[1], (2, full_size(form)), "P7");
         assert_eq!(allocated_with(form, 0xfeedface, 0x1884), (27, 0), "P8");
         // The word's high byte stands at 24 or, where the low byte stands first, at 27.
         let p9 = allocated_with(form, 0x00edface, 0xfeedface);
@@ -89,7 +102,7 @@ fn p10_byte_9_of_a_free_buffer() {
     for form in FORMS {
         let mut image = dump(form);
         image.heap[CHUNK[0] + 9] = 0;
-        assert_eq!(verdicts(&image), [(25, 9), (2, 20), (0, 0)]);
+        assert_eq!(verdicts(&image), [(25, 9), (2, dump_size(form)), (0, 0)]);
     }
 }
 
@@ -102,7 +115,7 @@ fn verdict_1_whole() {
 
 #[test]
 fn verdict_2_smallest_size() {
-    for form in FORMS {
+    for form in KERNEL_FORMS {
         // 251 * 1 + 1 = 252 = 0xfc.
         let mut image = dump_with_heap_word(form, CHUNK[1] + R1, 0xfc);
         image.heap[CHUNK[1] + 1] = 0xbb;
@@ -115,8 +128,8 @@ fn verdict_20_no_record_names_the_buffer() {
     for form in FORMS {
         for address in [0, BUFFER_2 + 4, BUFFER_2 + 40, BUFFER_0 - 40] {
             let mut image = dump(form);
-            image.put_record(RECORD[0] + ADDRESS, address);
-            assert_eq!(verdicts(&image), [(0, 0), (2, 20), (20, 0)]);
+            image.put_record(form.place(0) + ADDRESS, address);
+            assert_eq!(verdicts(&image), [(0, 0), (2, dump_size(form)), (20, 0)]);
         }
     }
 }
@@ -125,7 +138,7 @@ fn verdict_20_no_record_names_the_buffer() {
 fn verdict_20_two_records_name_the_buffer() {
     for form in FORMS {
         let mut image = dump(form);
-        image.put_record(RECORD[0] + ADDRESS, BUFFER_1);
+        image.put_record(form.place(0) + ADDRESS, BUFFER_1);
         assert_eq!(verdicts(&image), [(0, 0), (20, 0), (20, 0)]);
     }
 }
@@ -134,8 +147,8 @@ fn verdict_20_two_records_name_the_buffer() {
 fn verdict_20_three_records_name_the_buffer() {
     for form in FORMS {
         let mut image = dump(form);
-        image.put_record(RECORD[0] + ADDRESS, BUFFER_0);
-        image.put_record(RECORD[1] + ADDRESS, BUFFER_0);
+        image.put_record(form.place(0) + ADDRESS, BUFFER_0);
+        image.put_record(form.place(1) + ADDRESS, BUFFER_0);
         assert_eq!(verdicts(&image), [(20, 0), (20, 0), (20, 0)]);
     }
 }
@@ -143,11 +156,11 @@ fn verdict_20_three_records_name_the_buffer() {
 #[test]
 fn verdict_21_sound_pattern_on_another_record() {
     for form in FORMS {
-        // 0x70ae3200 xor 0xf4eef4ee = 0x8440c6ee.
+        // 0x70ae3200 xor 0xf4eef4ee = 0x8440c6ee; 0x70ae3204 xor 0xf4eef4ee = 0x8440c6ea.
         let mut image = dump(form);
-        image.put_heap(CHUNK[0] + T0, RECORD_1);
-        image.put_heap(CHUNK[0] + T1, 0x8440c6ee);
-        assert_eq!(verdicts(&image), [(21, 0), (2, 20), (0, 0)]);
+        image.put_heap(CHUNK[0] + T0, form.record(1));
+        image.put_heap(CHUNK[0] + T1, form.of(0x8440c6ee, 0x8440c6ea));
+        assert_eq!(verdicts(&image), [(21, 0), (2, dump_size(form)), (0, 0)]);
     }
 }
 
@@ -155,20 +168,20 @@ fn verdict_21_sound_pattern_on_another_record() {
 fn verdict_22_free_pattern() {
     for form in FORMS {
         let mut image = dump(form);
-        image.put_record(RECORD[0] + NEXT, RECORD_2);
-        assert_eq!(verdicts(&image), [(22, 0), (2, 20), (0, 0)]);
+        image.put_record(form.place(0) + NEXT, form.record(2));
+        assert_eq!(verdicts(&image), [(22, 0), (2, dump_size(form)), (0, 0)]);
     }
 }
 
 #[test]
 fn verdict_22_comes_before_24_and_25() {
     for form in FORMS {
-        let mut image = dump_with_head(form, RECORD_1);
-        image.put_record(RECORD[1] + NEXT, RECORD_1);
+        let mut image = dump_with_head(form, form.record(1));
+        image.put_record(form.place(1) + NEXT, form.record(1));
         assert_eq!(verdicts(&image), [(23, 0), (22, 0), (23, 0)]);
 
         let mut image = dump(form);
-        image.put_record(RECORD[0] + NEXT, RECORD_2);
+        image.put_record(form.place(0) + NEXT, form.record(2));
         image.heap[CHUNK[0]] = 0;
         assert_eq!(verdicts(&image)[0], (22, 0));
     }
@@ -177,8 +190,8 @@ fn verdict_22_comes_before_24_and_25() {
 #[test]
 fn verdict_21_comes_before_22() {
     for form in FORMS {
-        let mut image = dump_with_heap_word(form, CHUNK[0] + T1, 0x8440c68f);
-        image.put_record(RECORD[0] + NEXT, RECORD_2);
+        let mut image = dump_with_heap_word(form, CHUNK[0] + T1, form.of(0x8440c68f, 0x8440c687));
+        image.put_record(form.place(0) + NEXT, form.record(2));
         assert_eq!(verdicts(&image)[0], (21, 0));
     }
 }
@@ -187,8 +200,8 @@ fn verdict_21_comes_before_22() {
 fn verdict_20_comes_before_21_and_22() {
     for form in FORMS {
         let mut image = dump_with_heap_word(form, CHUNK[0] + T1, 0);
-        image.put_record(RECORD[2] + ADDRESS, 0);
-        image.put_record(RECORD[0] + NEXT, RECORD_2);
+        image.put_record(form.place(2) + ADDRESS, 0);
+        image.put_record(form.place(0) + NEXT, form.record(2));
         assert_eq!(verdicts(&image)[0], (20, 0));
     }
 }
@@ -196,8 +209,8 @@ fn verdict_20_comes_before_21_and_22() {
 #[test]
 fn verdict_23_free_pattern_not_met() {
     for form in FORMS {
-        let mut image = dump_with_head(form, RECORD_0);
-        assert_eq!(verdicts(&image), [(23, 0), (2, 20), (0, 0)]);
+        let mut image = dump_with_head(form, form.record(0));
+        assert_eq!(verdicts(&image), [(23, 0), (2, dump_size(form)), (0, 0)]);
         image.heap[CHUNK[0]] = 0;
         assert_eq!(verdicts(&image)[0], (23, 0), "before 25");
     }
@@ -206,7 +219,7 @@ fn verdict_23_free_pattern_not_met() {
 #[test]
 fn verdict_24_allocated_pattern_met() {
     for form in FORMS {
-        let mut image = dump_with_head(form, RECORD_1);
+        let mut image = dump_with_head(form, form.record(1));
         assert_eq!(verdicts(&image), [(23, 0), (24, 0), (0, 0)]);
         image.put_heap(CHUNK[1] + R1, 0);
         assert_eq!(verdicts(&image)[1], (24, 0), "before 27");
@@ -325,7 +338,7 @@ fn bytes_between_guard_and_redzone_are_not_judged() {
     for form in FORMS {
         let mut image = dump(form);
         image.heap[CHUNK[1] + 21..CHUNK[1] + 24].fill(0);
-        assert_eq!(verdicts(&image)[1], (2, 20));
+        assert_eq!(verdicts(&image)[1], (2, dump_size(form)));
     }
 }
 
@@ -333,8 +346,10 @@ fn bytes_between_guard_and_redzone_are_not_judged() {
 fn client_that_stores_the_free_fill_is_still_allocated() {
     for form in FORMS {
         let mut image = dump(form);
-        image.heap[CHUNK[1]..CHUNK[1] + 20].copy_from_slice(&form.words(&[0xdeadbeef; 5]));
-        assert_eq!(verdicts(&image)[1], (2, 20));
+        let client = CHUNK[1] + form.of(0, 8)..CHUNK[1] + 20;
+        let fill = form.words(&[0xdeadbeef; 5]);
+        image.heap[client].copy_from_slice(&fill[form.of(0, 8)..]);
+        assert_eq!(verdicts(&image)[1], (2, dump_size(form)));
     }
 }
 
@@ -349,7 +364,13 @@ fn rows_past_n_stay() {
     for form in FORMS {
         let image = dump(form);
         let mut rows = [KEPT; 5];
-        let answer = inspect(&image.sheet, &image.heap, &image.records, &mut rows);
+        let answer = inspect(
+            image.form.profile(),
+            &image.sheet,
+            &image.heap,
+            &image.records,
+            &mut rows,
+        );
         assert_eq!(answer, Ok(3));
         assert_eq!(rows[..3], findings(&image));
         assert_eq!(rows[3..], [KEPT; 2]);
@@ -361,7 +382,13 @@ fn refusal_11_rows_shorter_than_n() {
     for form in FORMS {
         let image = dump(form);
         let mut rows = [KEPT; 2];
-        let answer = inspect(&image.sheet, &image.heap, &image.records, &mut rows);
+        let answer = inspect(
+            image.form.profile(),
+            &image.sheet,
+            &image.heap,
+            &image.records,
+            &mut rows,
+        );
         assert_eq!(answer, refused(11));
         assert_eq!(rows, [KEPT; 2]);
     }

@@ -5,11 +5,11 @@ use std::fmt::Display;
 use differential::hurt::{HEAD_HURTS, HURTS};
 use differential::neighbours::{each_neighbour, each_small_size_code};
 use differential::samples::dump;
-use differential::{some_shape, Case, Image, Sequence, FORMS};
-use reference::Grant;
+use differential::{some_shape, Case, Image, Sequence, KERNEL_FORMS};
+use reference::{Grant, Profile};
 
 use crate::counts::{accepted, hurt, refusal, refusals, Counts};
-use crate::draw::{some_call, told_grant, Call};
+use crate::draw::{some_call, Call};
 use crate::lengths::each_length;
 use crate::twin::Twin;
 
@@ -102,7 +102,7 @@ fn run_all(
 fn hurt_images() {
     let mut counts = Counts::default();
     for number in 0..60_000 {
-        let (case, mut sequence) = Case::new(SEED, number);
+        let (case, mut sequence) = Case::new(Profile::Kernel, SEED, number);
         let mut twin = Twin::new(case.image.clone(), &case, &mut sequence);
         let eagerness = sequence.pick(&[8, 16, 24]);
         for _ in 0..8 {
@@ -126,8 +126,8 @@ fn lists_on_fresh_heaps() {
     let mut counts = Counts::default();
     let mut sequence = Sequence::new(SEED);
     for number in 0..3_000 {
-        let form = FORMS[number % FORMS.len()];
-        let shape = some_shape(&mut sequence);
+        let form = KERNEL_FORMS[number % KERNEL_FORMS.len()];
+        let shape = some_shape(Profile::Kernel, &mut sequence);
         let story = format!("list {number}, seed {SEED:#x}: {form:?} {shape:x?}");
         let image = Image::laid_out(form, shape, [sequence.word(); 5]);
         let mut twin = Twin::new(image, &story, &mut sequence);
@@ -180,7 +180,9 @@ fn neighbours_of_the_dump() {
         allocate(Grant::Sized(24)),
         allocate(Grant::Sized(1)),
     ];
-    each_neighbour(|image| run_all(image, calls, image, &mut counts, &mut sequence));
+    each_neighbour(&KERNEL_FORMS, |image| {
+        run_all(image, calls, image, &mut counts, &mut sequence);
+    });
     // These sizes are lawful.
     let unlawful_size = refusal("allocate", (6, 0));
     let wanted = answers().filter(|met| *met != unlawful_size);
@@ -200,7 +202,7 @@ fn every_pair_of_grants() {
                 allocate(granted),
                 free(BUFFER, freed),
             ];
-            for image in FORMS.map(dump) {
+            for image in KERNEL_FORMS.map(dump) {
                 run_all(&image, calls, &image, &mut counts, &mut sequence);
             }
         }
@@ -214,8 +216,8 @@ fn every_pair_of_grants() {
 fn every_small_size_code() {
     let mut counts = Counts::default();
     let mut sequence = Sequence::new(SEED);
-    each_small_size_code(|image| {
-        let calls = [free(BUFFER, told_grant(image, 1))];
+    each_small_size_code(&KERNEL_FORMS, |image| {
+        let calls = [free(BUFFER, image.told_grant(1))];
         run_all(image, calls, image, &mut counts, &mut sequence);
     });
     let wanted = refusals("free", &[(7, 27), (7, 28)]);

@@ -2,12 +2,10 @@
 //! there is.
 
 use differential::{Image, Sequence};
-use reference::{Grant, Refusal};
+use reference::{Grant, Profile, Refusal};
 use timed::{plain_allocate, plain_free};
 
 use crate::lent::Areas;
-
-const REDZONE: u32 = 0xfeed_face;
 
 /// One call with its arguments.
 #[derive(Clone, Copy, Debug)]
@@ -30,11 +28,13 @@ impl Call {
     pub fn by_reference(&self, image: &mut Image) -> Result<u32, Refusal> {
         let (sheet, heap, records) = (&mut image.sheet, &mut image.heap, &mut image.records);
         let (grant, uptime, thread) = (self.grant, self.uptime, self.thread);
+        let profile = Profile::Kernel;
         match self.address {
-            None => reference::allocate(sheet, heap, records, grant, uptime, thread),
-            Some(address) => {
-                reference::free(sheet, heap, records, address, grant, uptime, thread).map(|()| 0)
-            }
+            None => reference::allocate(profile, sheet, heap, records, grant, uptime, thread),
+            Some(address) => reference::free(
+                profile, sheet, heap, records, address, grant, uptime, thread,
+            )
+            .map(|()| 0),
         }
     }
 
@@ -99,7 +99,7 @@ fn some_grant(size: u32, sequence: &mut Sequence) -> Grant {
 /// Mostly the grant that a buffer's R1 tells; else one close to it, or any.
 fn near_grant(image: &Image, buffer: usize, sequence: &mut Sequence) -> Grant {
     let size = image.shape.size as u32;
-    let granted = told_grant(image, buffer);
+    let granted = image.told_grant(buffer);
     match (sequence.below(16), granted) {
         (0, _) => some_grant(size, sequence),
         (1, Grant::Whole) => Grant::Sized(size),
@@ -108,14 +108,6 @@ fn near_grant(image: &Image, buffer: usize, sequence: &mut Sequence) -> Grant {
         (3, Grant::Sized(size)) => Grant::Sized(size.wrapping_add(1)),
         (4, Grant::Sized(size)) => Grant::Sized(size.wrapping_add(0x1_0000)),
         _ => granted,
-    }
-}
-
-/// The grant that a buffer's R1 tells, as well as it can be told.
-pub fn told_grant(image: &Image, buffer: usize) -> Grant {
-    match image.heap_word(image.r1(buffer)) {
-        REDZONE => Grant::Whole,
-        code => Grant::Sized(code / 251),
     }
 }
 
@@ -137,7 +129,7 @@ fn near_buffer(image: &Image, buffer: usize, sequence: &mut Sequence) -> u32 {
         address.wrapping_add(0x8000_0000),
         shape.heap_base.wrapping_sub(step),
         shape.heap_base.wrapping_add(shape.heap_length() as u32),
-        shape.record_address(buffer),
+        image.record_address(buffer),
         0,
         0u32.wrapping_sub(step),
         u32::MAX,

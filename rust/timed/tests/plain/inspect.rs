@@ -4,8 +4,8 @@ use std::fmt::Display;
 
 use differential::hurt::HURTS;
 use differential::neighbours::{each_neighbour, each_small_size_code};
-use differential::{sound_image, Case, Image, Sequence};
-use reference::{Finding, Refusal};
+use differential::{sound_image, Case, Image, Sequence, KERNEL_FORMS};
+use reference::{Finding, Profile, Refusal};
 use timed::plain_inspect;
 
 use crate::counts::{hurt, refusals, verdict, Counts, VERDICTS};
@@ -32,7 +32,8 @@ fn compare(
     story: &dyn Display,
 ) -> Result<Vec<Finding>, Refusal> {
     let mut findings = vec![Finding::default(); room / 3];
-    let expected = reference::inspect(&image.sheet, &image.heap, &image.records, &mut findings);
+    let (sheet, heap, records) = (&image.sheet, &image.heap, &image.records);
+    let expected = reference::inspect(Profile::Kernel, sheet, heap, records, &mut findings);
     findings.truncate(expected.unwrap_or(0));
     let mut expected_rows = vec![UNTOUCHED; room + 2 * AROUND];
     for (row, finding) in expected_rows[AROUND..].chunks_exact_mut(3).zip(&findings) {
@@ -55,7 +56,7 @@ fn compare(
 fn hurt_images() {
     let mut counts = Counts::default();
     for number in 0..60_000 {
-        let (case, mut sequence) = Case::new(SEED, number);
+        let (case, mut sequence) = Case::new(Profile::Kernel, SEED, number);
         let room = sequence.room(3 * case.image.shape.count);
         let found = compare(&case.image, room, &mut sequence, &case);
         counts.note_found(case.image.form, &found);
@@ -74,7 +75,7 @@ fn sound_images() {
     let mut counts = Counts::default();
     let mut sequence = Sequence::new(SEED);
     for _ in 0..2_000 {
-        let image = sound_image(&mut sequence);
+        let image = sound_image(Profile::Kernel, &mut sequence);
         let room = 3 * image.shape.count;
         let found = compare(&image, room, &mut sequence, &image);
         assert!(found.is_ok(), "a sound image is not refused: {image}");
@@ -87,7 +88,7 @@ fn sound_images() {
 fn neighbours_of_the_dump() {
     let mut counts = Counts::default();
     let mut sequence = Sequence::new(SEED);
-    each_neighbour(|image| {
+    each_neighbour(&KERNEL_FORMS, |image| {
         let found = compare(image, 10, &mut sequence, image);
         counts.note_found(image.form, &found);
     });
@@ -117,7 +118,7 @@ fn every_length() {
 fn every_small_size_code() {
     let mut counts = Counts::default();
     let mut sequence = Sequence::new(SEED);
-    each_small_size_code(|image| {
+    each_small_size_code(&KERNEL_FORMS, |image| {
         let found = compare(image, 9, &mut sequence, image);
         counts.note_found(image.form, &found);
     });

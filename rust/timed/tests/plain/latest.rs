@@ -4,8 +4,8 @@ use std::fmt::Display;
 
 use differential::latest::{choices_met, each_order_of_uptimes, some_index, some_now, CHOICES};
 use differential::neighbours::each_neighbour;
-use differential::{Case, Image, Sequence};
-use reference::{Latest, Refusal};
+use differential::{Case, Image, Sequence, KERNEL_FORMS};
+use reference::{Latest, Profile, Refusal};
 use timed::plain_latest;
 
 use crate::counts::{refusals, Counts};
@@ -29,7 +29,8 @@ fn compare(
     story: &dyn Display,
 ) -> Result<Latest, Refusal> {
     let (sheet, heap, records) = (&image.sheet, &image.heap, &image.records);
-    let expected = reference::latest(sheet, heap, records, &image.log, index, now);
+    let (profile, log) = (Profile::Kernel, &image.log);
+    let expected = reference::latest(profile, sheet, heap, records, log, index, now);
     let value = expected.map(|found| match found {
         Latest::Row(row) => row as u32,
         Latest::Record(record) => RECORD_MARK + record as u32,
@@ -63,7 +64,7 @@ fn choices() -> impl Iterator<Item = String> {
 fn hurt_images() {
     let mut counts = Counts::default();
     for number in 0..60_000 {
-        let (case, mut sequence) = Case::new(SEED, number);
+        let (case, mut sequence) = Case::new(Profile::Kernel, SEED, number);
         for _ in 0..3 {
             let index = some_index(&case.image, &mut sequence);
             let now = some_now(&case.image, &mut sequence);
@@ -79,7 +80,7 @@ fn hurt_images() {
 fn every_order_of_uptimes() {
     let mut sequence = Sequence::new(SEED);
     let mut counts = Counts::default();
-    each_order_of_uptimes(|image, now| {
+    each_order_of_uptimes(&KERNEL_FORMS, |image, now| {
         let found = compare(image, 1, now, &mut sequence, image);
         note(&mut counts, image, found);
     });
@@ -90,7 +91,7 @@ fn every_order_of_uptimes() {
 fn neighbours_of_the_dump() {
     let mut counts = Counts::default();
     let mut sequence = Sequence::new(SEED);
-    each_neighbour(|image| {
+    each_neighbour(&KERNEL_FORMS, |image| {
         for index in 0..3 {
             let found = compare(image, index, 7, &mut sequence, image);
             note(&mut counts, image, found);

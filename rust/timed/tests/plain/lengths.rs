@@ -2,10 +2,10 @@
 //! first has to be given.
 
 use differential::samples::dump;
-use differential::{Image, FORMS};
+use differential::{Image, KERNEL_FORMS};
 
 pub fn each_length(mut see: impl FnMut(&Image)) {
-    for form in FORMS {
+    for form in KERNEL_FORMS {
         for sheet_length in (0..=3).chain(40..=56) {
             let mut image = dump(form);
             image.sheet.resize(sheet_length, 0);

@@ -6,4 +6,8 @@ use Rattle.area.proofs.record.read.Tie as tie
 
 pub read-spec : {M : Type 1} → statement M
 unfolding recordWord
-read-spec = tie.close (tie.spec (λ c. search needs) (λ c. search needs) (λ c κs. search needs) (λ c. c .read-u32 .ensures))
+read-spec =
+    tie.close
+    (tie.spec
+    (λ c κs. search needs) (λ c. search needs) (λ c κs. search needs)
+    (λ c. rw (← c .before .place .ensures) (c .read-u32 .ensures)))

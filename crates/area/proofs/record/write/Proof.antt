@@ -1,23 +1,38 @@
 -- Four words and a fill in a row. Assumes nothing.
+use mathlib.Core.Path.{ap, sym, _∙_}
+use Prim.Native.Nat.{ℕ, _-_}
+use mathlib.Core.List.{List}
+use native.Mathlib.Omega.{arith}
 use borrow.Author.Needs.{needs}
-use Rattle.area.proofs.Records.{record-run}
+use Rattle.area.proofs.Records.{record-least, record-words, record-run}
 use Rattle.area.proofs.record.write.Statement.{statement}
 use Rattle.area.proofs.record.write.Tie as tie
 
+fill-words-requires : tie.Need-fill-words-requires
+fill-words-requires c κs =
+    let p = c .before .before .before .before .before .before .before .before .before .before .before .before .before .before .before .before .before .before .before .before .args .f .profile in
+    (omega (arith, record-least p, c .size .ensures), omega (arith, record-words p, record-least p, c .size .ensures))
+
 returns : tie.Need-returns
 returns c =
-    let f₄ = c .before .before .before .before .before .before in
+    let f₅ = c .before .before in
+    let f₄ = f₅ .before .before .before .before .before in
     let f₃ = f₄ .before .before .before .before in
     let f₂ = f₃ .before .before .before .before in
     let f₁ = f₂ .before .before .before .before in
-    let a = f₁ .before .before .before .args in
-    record-run (a .f) _ _ _ _ _ _ _ _ _ _ (f₁ .write-u32 .ensures) (f₂ .write-u322 .ensures) (f₃ .write-u323 .ensures) (f₄ .write-u324 .ensures)
-    (c .before .before .fill .ensures)
+    let at = f₁ .before .before in
+    let a = at .before .before .args in
+    rw (← at .place .ensures)
+    (record-run (a .f) _ _ _ _ _ _ _ _ _ _ _ (f₁ .write-u32 .ensures) (f₂ .write-u322 .ensures) (f₃ .write-u323 .ensures) (f₄ .write-u324 .ensures)
+    (f₅ .before .size .ensures) (f₅ .fill-words .ensures))
 
 pub write-spec : {M : Type 1} → statement M
 write-spec =
     tie.close
     (tie.spec
-    (λ c. search needs) (λ c. search needs) (λ c κs. search needs) (λ c. search needs) (λ c κs. search needs) (λ c. search needs)
-    (λ c κs. search needs) (λ c. search needs) (λ c κs. search needs) (λ c. search needs) (λ c. search needs) (λ c κs. search needs)
-    (λ c. search needs) returns)
+    (λ c κs. search needs) (λ c. search needs) (λ c κs. omega (arith, record-least (c .before .before .before .args .f .profile))) (λ c. search needs)
+    (λ c κs. omega (arith, record-least (c .before .before .before .before .before .before .before .args .f .profile))) (λ c. search needs)
+    (λ c κs. omega (arith, record-least (c .before .before .before .before .before .before .before .before .before .before .before .args .f .profile))) (λ c. search needs)
+    (λ c κs. omega (arith, record-least (c .before .before .before .before .before .before .before .before .before .before .before .before .before .before .before .args .f .profile))) (λ c. search needs)
+    (λ c κs. search needs) (λ c. omega (arith, record-least (c .before .before .before .before .before .before .before .before .before .before .before .before .before .before .before .before .before .before .before .before .args .f .profile), c .size .ensures))
+    fill-words-requires (λ c. search needs) returns)

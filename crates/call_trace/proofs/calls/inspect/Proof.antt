@@ -6,10 +6,10 @@ use Rattle.call_trace.proofs.calls.inspect.Statement.{statement}
 use Rattle.call_trace.proofs.calls.inspect.Tie as tie
 
 abbrev Inv-loop : tie.InvT-loop
-Inv-loop sheet heap records k₀ k = k ≤ 4
+Inv-loop profile sheet heap records k₀ k = k ≤ 4
 
 abbrev μ-loop : tie.MeasureT-loop
-μ-loop sheet heap records k₀ k = 4 - k
+μ-loop profile sheet heap records k₀ k = 4 - k
 
 pub inspect-spec : {M : Type 1} → statement M
 inspect-spec =

@@ -10,7 +10,8 @@ use borrow.Fn.PlainCycle.{Measures, is, falls, and}
 use lib.ListN.{length, set, length-set}
 use Rattle.area.specs.Place.{placeAddress, placeOf}
 use Rattle.area.specs.Record.{recordSize, nextAt}
-use Rattle.tags.specs.Format.{formatIf}
+use Rattle.tags.specs.Format.{formatOf, orderIf}
+use Rattle.words.proofs.Parts.{below}
 use Rattle.chain.specs.Chain.{meets, chainAfter}
 use Rattle.chain.specs.Walk.{unmet}
 use Rattle.area.specs.declared.place.Place.the-variants.{At, Nowhere}
@@ -25,9 +26,9 @@ use Rattle.chain.proofs.walk.walk.Reads as walk
 use Rattle.chain.proofs.walk.walk.Kinds as walk-kinds
 use Rattle.chain.proofs.walk.+walk.Lts-walk as walk-lts
 use Rattle.chain.proofs.walk.pack.Reads as pack-reads
-use Rattle.area.proofs.place.find.Reads as find-reads
+use Rattle.area.proofs.record.find.Reads as find-reads
 use Rattle.chain.proofs.walk.with_met.Reads as with-met-reads
-use Rattle.tags.proofs.format.Format.of.Reads as of-reads
+use Rattle.tags.proofs.format.order_if.Reads as order-if-reads
 use Rattle.area.proofs.record.read_at.Reads as read-at-reads
 use denote.Ref.{now}
 
@@ -49,18 +50,13 @@ callees t = (
   find-reads.Learnt,
   with-met-reads.Asked,
   with-met-reads.Learnt,
-  of-reads.Asked,
-  of-reads.Learnt,
+  order-if-reads.Asked,
+  order-if-reads.Learnt,
   read-at-reads.Asked,
   read-at-reads.Learnt,
   walk-below t,
   walk.Post,
 )
-
--- places of the length that is passed are those of the records
-at-size : {t : ℕ} (s : walk-lts.Start (callees t) (walk-at t) walk.Post) →
-    let a = s .args in placeOf (a .base) recordSize (a .n) (a .word) ≡ placeOf (a .base) (a .size) (a .n) (a .word)
-at-size s = let a = s .args in ap (λ (size : ℕ). placeOf (a .base) size (a .n) (a .word)) (sym (s .pre .1 .stride))
 
 -- where the word is found to be a record's address
 abbrev At-p : ℕ → Type 0
@@ -70,11 +66,11 @@ module _ (t : ℕ) (c : At-p t) where
   abbrev index : ℕ
   index = c .p .given .0 .0
 
-  is-at : let a = c .before .before .before .before .args in placeOf (a .base) recordSize (a .n) (a .word) ≡ At index
-  is-at = at-size (c .before .before .before .before) ∙ sym (c .before .before .find .ensures) ∙ c .p .given .1
+  is-at : let a = c .before .before .before .before .args in placeOf (a .base) (a .size) (a .n) (a .word) ≡ At index
+  is-at = sym (c .before .before .find .ensures) ∙ c .p .given .1
 
-  found : let a = c .before .before .before .before .args in (index < a .n) × (a .word ≡ placeAddress (a .base) recordSize index)
-  found = let a = c .before .before .before .before .args in place-found (a .base) recordSize (a .n) (a .word) index is-at
+  found : let a = c .before .before .before .before .args in (index < a .n) × (a .word ≡ placeAddress (a .base) (a .size) index)
+  found = let a = c .before .before .before .before .args in place-found (a .base) (a .size) (a .n) (a .word) index is-at
 
   in-marks : index < length (now (c .before .before .before .before .args .marks .now))
   in-marks = let h = found .0 in omega arith
@@ -103,9 +99,9 @@ walk-returns t c =
     let s = c .before .before in
     let a = s .args in
     let z = c .before .if1 .taken in (
-      λ rest seen h.
-          gives-stop _ End rest seen (a .base) (a .n) (a .met) (a .word) _ _ (chain-end _ _ _ _ seen _ z) (c .pack .ensures) (s .fits .word .fits)
-          (ending-end (a .base) (a .n) (a .word) z) h,
+      λ p e rest seen h.
+          gives-stop _ End rest seen (a .base) (a .size) (a .n) (a .met) (a .word) _ _ (chain-end _ _ _ _ seen _ z) (c .pack .ensures) (s .fits .word .fits)
+          (ending-end (a .base) (a .size) (a .n) (a .word) z) h,
       (refl, refl),
     )
 
@@ -134,10 +130,10 @@ walk-returns-2 t c =
     let a = s .args in
     let i = index t p in
     let z = p .before .before .before .if1 .left in (
-      λ rest seen h.
-          gives-stop _ (Again i) rest seen (a .base) (a .n) (a .met) (a .word) _ _
-          (chain-again _ _ _ _ seen _ i z (is-at t p) (is-met (a .n) rest seen (now (a .marks .now)) i h (found t p .0) (c .before .if2 .taken)))
-          (c .pack3 .ensures) (s .fits .word .fits) (ending-place (a .base) (a .n) (a .word) (At i) z (is-at t p)) h,
+      λ q e rest seen h.
+          gives-stop _ (Again i) rest seen (a .base) (a .size) (a .n) (a .met) (a .word) _ _
+          (chain-again _ _ _ _ seen _ i z (rw (← e) (is-at t p)) (is-met (a .n) rest seen (now (a .marks .now)) i h (found t p .0) (c .before .if2 .taken)))
+          (c .pack3 .ensures) (s .fits .word .fits) (ending-place (a .base) (a .size) (a .n) (a .word) (At i) z (is-at t p)) h,
       (refl, refl),
     )
 
@@ -150,8 +146,8 @@ walk-with-met-requires t c κs = search needs
 walk-index-1-marks : (t : ℕ) → walk-lts.Need-index-1-marks (callees t) (walk-at t) walk.Post
 walk-index-1-marks t c = in-marks t (c .before .before .before .before .before)
 
-walk-of-requires : (t : ℕ) → walk-lts.Need-of-requires (callees t) (walk-at t) walk.Post
-walk-of-requires t c κs = search needs
+walk-order-if-requires : (t : ℕ) → walk-lts.Need-order-if-requires (callees t) (walk-at t) walk.Post
+walk-order-if-requires t c κs = search needs
 
 walk-cast-read-at : (t : ℕ) → walk-lts.Need-cast-read-at (callees t) (walk-at t) walk.Post
 walk-cast-read-at t c = search needs
@@ -160,7 +156,11 @@ walk-add-read-at : (t : ℕ) → walk-lts.Need-add-read-at (callees t) (walk-at 
 walk-add-read-at t c = search needs
 
 walk-read-at-requires : (t : ℕ) → walk-lts.Need-read-at-requires (callees t) (walk-at t) walk.Post
-walk-read-at-requires t c κs = let h = found t (c .before .before .before .before .before .before .before) in (omega arith, omega arith)
+walk-read-at-requires t c κs =
+    let p = c .before .before .before .before .before .before .before in
+    let a = p .before .before .before .before .args in
+    let h = found t p in
+    (omega arith, omega (arith, below (a .size) (h .0)))
 
 walk-add-walk : (t : ℕ) → walk-lts.Need-add-walk (callees t) (walk-at t) walk.Post
 walk-add-walk t c = omega arith
@@ -172,7 +172,7 @@ walk-walk-requires t c κs =
     let h = fewer t m in (
       omega arith,
       record {
-        stride = s .pre .1 .stride;
+        wide = s .pre .1 .wide;
         room = s .pre .1 .room;
         most = s .pre .1 .most;
         long = length-set (entry t m) (place t m) _ ∙ s .pre .1 .long;
@@ -185,10 +185,10 @@ walk-returns-3 t c =
     let s = c .before .before .before .before .before in
     let a = s .args in
     let z = c .before .before .before .before .if1 .left in
-    let e = at-size s ∙ sym (c .before .before .before .find .ensures) ∙ c .before .enum-told .given .1 in (
-      λ rest seen h.
-          gives-stop _ Broken rest seen (a .base) (a .n) (a .met) (a .word) _ _ (chain-broken _ _ _ _ seen _ z e) (c .pack2 .ensures) (s .fits .word .fits)
-          (ending-place (a .base) (a .n) (a .word) Nowhere z e) h,
+    let e = sym (c .before .before .before .find .ensures) ∙ c .before .enum-told .given .1 in (
+      λ q es rest seen h.
+          gives-stop _ Broken rest seen (a .base) (a .size) (a .n) (a .met) (a .word) _ _ (chain-broken _ _ _ _ seen _ z (rw (← es) e)) (c .pack2 .ensures)
+          (s .fits .word .fits) (ending-place (a .base) (a .size) (a .n) (a .word) Nowhere z e) h,
       (refl, refl),
     )
 
@@ -200,16 +200,18 @@ walk-returns-4 t c =
     let s = p .before .before .before .before in
     let a = s .args in
     let even = m .before .before .if2 .left in
-    let f = formatIf (a .low) in
-    let from = chainAfter f (now (a .records .now)) (a .base) (a .n) in
-    let w = rw (c .before .before .before .before .of .ensures) at (c .before .before .read-at .ensures) in
-    let read = w ∙ record-at f _ (a .base) _ i nextAt (ap (λ (w : ℕ). w + nextAt) (found t p .1)) in (
-      λ rest seen h.
-          gives-meets _ (from (i ∷ seen) (c .before .before .read-at .result)) i rest seen (a .base) (a .n) (a .met) _ _
-          (chain-meets f _ _ _ seen (a .word) i (p .before .before .before .if1 .left) (is-at t p)
+    let r = c .before .before in
+    let w = rw (r .before .before .order-if .ensures) at (r .read-at .ensures) in (
+      λ q e rest seen h.
+          let f = formatOf q (orderIf (a .low)) in
+          let from = chainAfter f (now (a .records .now)) (a .base) (a .n) in
+          let at = found t p .1 ∙ ap (λ (z : ℕ). placeAddress (a .base) z i) e in
+          let read = w ∙ record-at f _ (a .base) _ i nextAt (ap (λ (w : ℕ). w + nextAt) at) in
+          gives-meets _ (from (i ∷ seen) (r .read-at .result)) i rest seen (a .base) (a .size) (a .n) (a .met) _ _
+          (chain-meets f _ _ _ seen (a .word) i (p .before .before .before .if1 .left) (rw (← e) (is-at t p))
           (not-met (a .n) rest seen (entry t m) i h (found t p .0) even)
           ∙ ap (λ (w : ℕ). meets i (from (i ∷ seen) w)) (sym read))
-          (c .walk .ensures .0 rest (i ∷ seen)
+          (c .walk .ensures .0 q e rest (i ∷ seen)
           (ap (set (entry t m) i) (m .with-met .ensures) ∙ area-meets (a .n) rest seen (entry t m) i h (found t p .0) even)),
       (c .walk .ensures .1 .0, c .walk .ensures .1 .1 ∙ length-set (entry t m) i _),
     )
@@ -230,7 +232,7 @@ pub +walk-spec : {M : Type 1} → statement M
     (walk-index-1-with-met t)
     (walk-with-met-requires t)
     (walk-index-1-marks t)
-    (walk-of-requires t)
+    (walk-order-if-requires t)
     (walk-cast-read-at t)
     (walk-add-read-at t)
     (walk-read-at-requires t)

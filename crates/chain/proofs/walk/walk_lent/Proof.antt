@@ -43,7 +43,7 @@ use denote.Triple.Table.{entered, cited}
 use denote.Triple.Walked.{says, needs, stay-dropped, stay-slice, walkOf, goes-dropped, goes-slice, Walks, ends-at, walked, walk-meets, Stays as Stayed}
 use denote.Exit.{yes}
 use denote.Signature.{Slot, plain, shrRefTo, shrSliceOf}
-use Rattle.tags.specs.Format.{formatIf}
+use Rattle.tags.specs.Format.{orderIf}
 use Rattle.chain.specs.Walk.{Walkable, WalkOf, Stays}
 use Rattle.chain.proofs.Lends.{Lent, lentTy, to, Waits, lends-local, local-back}
 use Rattle.chain.proofs.walk.walk as walk
@@ -160,7 +160,7 @@ module _ {M : Type 1} (𝓤 : URA M) (H : Heap 𝓤) (A : Atoms 𝓤) (W : Given
   left-over r w zs =
       ‵ (flft κ₀ q₀) ∷ ‵ (flft κ₁ q₁) ∷ ‵ (flft κ q) ∷ ‵ (Lent κ .own (at-last x zs) (s ∷ [])) ∷ ‵ (u64 .own r (w ∷ [])) ∷ []
 
-  exits : (r : ℕ) (w : Val) (zs : List ℕ) → WalkOf (formatIf low) (now (now records)) base n head (now x) 0 r zs → length zs ≡ length (now x)
+  exits : (r : ℕ) (w : Val) (zs : List ℕ) → WalkOf (orderIf low) size (now (now records)) base n head (now x) 0 r zs → length zs ≡ length (now x)
       → ent 𝓤 (⋆ 𝓤 H A (left-over r w zs)) (Post w)
   exits r w zs e l =
       qed W (left-over r w zs) ∵
@@ -180,7 +180,7 @@ module _ {M : Type 1} (𝓤 : URA M) (H : Heap 𝓤) (A : Atoms 𝓤) (W : Given
 
   -- what it ensures of them
   abbrev Ensured : ℕ → Lasts → Type 0
-  Ensured r ys = WalkOf (formatIf low) (now (now records)) base n head (now x) 0 r (now (local ys)) × Stays x (local ys)
+  Ensured r ys = WalkOf (orderIf low) size (now (now records)) base n head (now x) 0 r (now (local ys)) × Stays x (local ys)
 
   module _ (C : Calls 𝓤 H) (Λ : Loops 𝓤 H) (fm : FmC 𝓤 H (W .laws) C) (known : Triple 𝓤 (C #chain·walk) (Walk 𝓤 H A at-mem run)) where
     steps : Room u8 (length (now x)) → Walkable (now (now records)) size n (now x) 0

@@ -13,8 +13,9 @@ known c = held-known _ _ _ (c .before .before .before .before .before .pre) (sym
 
 returns-2 : tie.Need-returns-2
 returns-2 c =
-    let h = c .before .before .before in
-    rw (← h .before .before .hold .ensures, h .held2 .given .1, c .before .client-place .ensures, c .client-size .ensures)
+    let b = c .before .before in
+    let h = b .before .before in
+    rw (← h .before .before .hold .ensures, h .held2 .given .1, b .buffer-place .ensures, c .before .client-start .ensures, c .client-size .ensures)
 
 pub locate-spec : {M : Type 1} → statement M
 locate-spec =
@@ -22,6 +23,6 @@ locate-spec =
     (tie.spec
     (λ c κs. search needs) (λ c. search needs) (λ c. search needs)
     (λ c κs. let k = known (c .before) in (k .opened .law, k .buffer))
-    (λ c κs. search needs)
+    (λ c κs. search needs) (λ c κs. search needs)
     (λ c. rw (← c .before .before .before .hold .ensures, c .before .held .given .1))
     returns-2)

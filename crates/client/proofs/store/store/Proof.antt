@@ -15,8 +15,8 @@ use Rattle.client.proofs.store.store.Tie as tie
 -- the buffer is held, and the bytes lie in the client's
 known : (c : tie.After-planned2) → let a = c .before .before .before .before .before .before .before .before .args in
     let p = c .planned2 .given .0 .0 in
-    HeldAt (lent (a .sheet) (a .heap) (a .records)) (a .address) p × (a .offset + length (a .bytes .now) ≤ clientSize p)
-known c = store-known _ _ _ _ _ (sym (c .before .before .plan .ensures) ∙ c .planned2 .given .1)
+    HeldAt (a .profile) (lent (a .sheet) (a .heap) (a .records)) (a .address) p × (a .offset + length (a .bytes .now) ≤ clientSize p)
+known c = store-known _ _ _ _ _ _ (sym (c .before .before .plan .ensures) ∙ c .planned2 .given .1)
 
 add-write-run : tie.Need-add-write-run
 add-write-run c =

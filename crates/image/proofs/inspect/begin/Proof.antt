@@ -14,13 +14,13 @@ use Rattle.image.proofs.inspect.begin.Tie as tie
 known : (c : tie.After-opened2) →
     let a = c .before .before .before .before .before .before .args in
     Open (length (a .heap .now)) (length (a .records .now)) (c .opened2 .given .0 .0)
-known c = opened-known _ _ _ _ (sym (c .before .before .«open» .ensures) ∙ c .opened2 .given .1) .opens
+known c = opened-known _ _ _ _ _ (sym (c .before .before .«open» .ensures) ∙ c .opened2 .given .1) .opens
 
 returns : tie.Need-returns
 returns c =
     let o = c .before .before .before in
     let a = o .before .before .before .before .before .before .args in
-    begins-short (lent (a .sheet) (a .heap) (a .records)) (a .rows) _ (o .opened2 .given .0 .0)
+    begins-short (a .profile) (lent (a .sheet) (a .heap) (a .records)) (a .rows) _ (o .opened2 .given .0 .0)
     (sym (o .before .before .«open» .ensures) ∙ o .opened2 .given .1) (c .if1 .taken)
 
 mark-first-requires : tie.Need-mark-first-requires
@@ -32,14 +32,14 @@ mark-first-requires c κs =
 returns-2 : tie.Need-returns-2
 returns-2 c =
     let a = c .before .before .before .before .before .before .before .args in
-    begins-refused (lent (a .sheet) (a .heap) (a .records)) (a .rows) _ (c .before .opened .given .0 .0)
+    begins-refused (a .profile) (lent (a .sheet) (a .heap) (a .records)) (a .rows) _ (c .before .opened .given .0 .0)
     (sym (c .before .before .before .«open» .ensures) ∙ c .before .opened .given .1)
 
 returns-3 : tie.Need-returns-3
 returns-3 c =
     let o = c .before .before .before .before .before in
     let a = o .before .before .before .before .before .before .args in
-    begins-image (lent (a .sheet) (a .heap) (a .records)) (a .rows) _ (o .opened2 .given .0 .0)
+    begins-image (a .profile) (lent (a .sheet) (a .heap) (a .records)) (a .rows) _ (o .opened2 .given .0 .0)
     (sym (o .before .before .«open» .ensures) ∙ o .opened2 .given .1) _ (c .before .before .if1 .left) (c .mark-first .ensures .1) (c .mark-first .ensures .0)
 
 pub begin-spec : {M : Type 1} → statement M

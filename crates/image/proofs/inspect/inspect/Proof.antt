@@ -45,7 +45,8 @@ use denote.Ref.{RefT, ShrRef, MutRef, shr-copy}
 use denote.Slice.{sliceTy, sliceVal, MutSlice, ShrSlice, Room, heres, codedHoleys, at-slice, slice-vals, mut-slice-tells}
 use denote.Lend.{Held}
 use denote.Index.{row, place-is, elem-out, elem-put, opens-slice, closes-slice}
-use denote.Signature.{plain}
+use denote.Exit.{yes}
+use denote.Signature.{Slot, plain}
 use denote.Steps.{only, owned, peeks, heard, nothing}
 use denote.Enum.Laws as EL
 use denote.Struct.Laws as LL
@@ -55,8 +56,9 @@ use denote.Triple.Clauses.{ensured, lasts}
 use denote.Triple.Entry.{onEntry}
 use denote.Triple.Spec.{Meets, tripleOf}
 use denote.Triple.Table.{entered, cited}
-use denote.Triple.Walked.{Stays, stay-slice, walkOf, goes-slice, Walks, ends-at, walked, walk-meets, says}
+use denote.Triple.Walked.{Stays, stay-dropped, stay-slice, walkOf, goes-dropped, goes-slice, Walks, ends-at, walked, walk-meets, says}
 use borrow.Author.Tests.{lt-ltb, le-ltb}
+use Rattle.tags.specs.declared.format.Profile.{Profile}
 use Rattle.sheet.specs.Areas.{lent as lentAreas}
 use Rattle.image.specs.Inspect.{filled, countOf, answerOf, foundBy, Begins}
 use Rattle.image.specs.declared.inspect.Finding.{Finding}
@@ -68,6 +70,8 @@ use Rattle.image.proofs.inspect.Finding as T
 use Rattle.image.proofs.inspect.Finding.Laws as T′
 use Rattle.image.proofs.inspect.Begun as B
 use Rattle.image.proofs.inspect.Begun.Laws as B′
+use Rattle.tags.proofs.format.Profile as P
+use Rattle.tags.proofs.format.Profile.Laws as P′
 use Rattle.tags.proofs.refusal.Answer as I
 use Rattle.tags.proofs.refusal.Answer.Laws as I′
 use Rattle.image.proofs.inspect.begin as begin
@@ -92,8 +96,15 @@ use Rattle.image.proofs.inspect.inspect.Statement as stated
 use Rattle.image.proofs.inspect.inspect.Code as code
 use Rattle.image.proofs.inspect.inspect.Code.Mir as body
 
+-- the profile, a plain value: nothing is had of it at exit
+abbrev ProfileS : Slot 4
+ProfileS = plain (λ _. P.the-row)
+
 abbrev stayed : Stays (outer.ended .signature .params) (outer.ended .kept)
-stayed = (stays-bytes 0 tt, (stays-bytes 1 tt, (stays-bytes 2 tt, (stay-slice (3 ∷ []) tt (plain (λ _. T.the-row)), tt))))
+stayed = (
+  stay-dropped ProfileS yes,
+  (stays-bytes 0 tt, (stays-bytes 1 tt, (stays-bytes 2 tt, (stay-slice (3 ∷ []) tt (plain (λ _. T.the-row)), tt)))),
+)
 
 -- ---- the function, with its locals' types written out: the walk is at these, so that what the lemmas below say is met as it is written
 abbrev word : Ty
@@ -118,12 +129,12 @@ abbrev function : Fn
 function = record {
   lifetimes = 4;
   outlives = [];
-  params = 4;
+  params = 5;
   locals =
-      local I′.mir valueLocal ∷ local (area-ty 0) valueLocal ∷ local (area-ty 1) valueLocal ∷ local (area-ty 2) valueLocal ∷ local rows-ty valueLocal ∷
-      local marks-ty memorySlot ∷ local B′.mir valueLocal ∷ local word valueLocal ∷ local word valueLocal ∷ local word valueLocal ∷
-      local marks-mut valueLocal ∷ local tyBool valueLocal ∷ local T′.mir valueLocal ∷ local marks-ref valueLocal ∷ local word valueLocal ∷
-      local tyPtr valueLocal ∷ [];
+      local I′.mir valueLocal ∷ local P′.mir valueLocal ∷ local (area-ty 0) valueLocal ∷ local (area-ty 1) valueLocal ∷ local (area-ty 2) valueLocal ∷
+      local rows-ty valueLocal ∷ local marks-ty memorySlot ∷ local B′.mir valueLocal ∷ local word valueLocal ∷ local word valueLocal ∷
+      local word valueLocal ∷ local marks-mut valueLocal ∷ local tyBool valueLocal ∷ local T′.mir valueLocal ∷ local marks-ref valueLocal ∷
+      local word valueLocal ∷ local tyPtr valueLocal ∷ [];
   body = body.t-1;
 }
 
@@ -162,7 +173,8 @@ module _ {M : Type 1} (𝓤 : URA M) (H : Heap 𝓤) (A : Atoms 𝓤) (mem : Mem
 
 module _
     {M : Type 1} (𝓤 : URA M) (H : Heap 𝓤) (A : Atoms 𝓤) (W : Given 𝓤 H A) (mem : Memory → SProp 𝓤) (run : Routine → Fun 𝓤)
-    (κ₀ κ₁ κ₂ κ₃ : Lft) (q₀ q₁ q₂ q₃ : Share) (sh hp rc : RefT (List ℕ)) (b o : ℕ) (γ : GName) (ys : List Finding) where
+    (κ₀ κ₁ κ₂ κ₃ : Lft) (q₀ q₁ q₂ q₃ : Share)
+    (pf : Profile) (is-pf : Is P.the-row pf (EL.vals P.the-type P′.the-laws pf)) (sh hp rc : RefT (List ℕ)) (b o : ℕ) (γ : GName) (ys : List Finding) where
   abbrev κs : Lfts 4
   κs = (κ₀, (κ₁, (κ₂, (κ₃, tt))))
 
@@ -173,10 +185,13 @@ module _
   abbrev x : List Finding → RefT (List Finding)
   x l = record { ptr = (b, o); name = γ; now = l }
 
-  abbrev a : RefT (List ℕ) × (RefT (List ℕ) × (RefT (List ℕ) × (RefT (List Finding) × Unit {0})))
-  a = (sh, (hp, (rc, (x ys, tt))))
+  abbrev a : Profile × (RefT (List ℕ) × (RefT (List ℕ) × (RefT (List ℕ) × (RefT (List Finding) × Unit {0}))))
+  a = (pf, (sh, (hp, (rc, (x ys, tt)))))
 
-  -- the machine values of the four slices
+  -- the machine values of the profile and of the four slices
+  abbrev pv : Val
+  pv = EL.val P.the-type P′.the-laws pf
+
   abbrev sv : Val
   sv = sliceVal (sh .ptr) (length (sh .now))
 
@@ -189,8 +204,8 @@ module _
   abbrev s : Val
   s = sliceVal (b, o) (length ys)
 
-  abbrev at : List Val × (List Val × (List Val × (List Val × Unit {0})))
-  at = (sv ∷ [], (hv ∷ [], (rv ∷ [], (s ∷ [], tt))))
+  abbrev at : List Val × (List Val × (List Val × (List Val × (List Val × Unit {0}))))
+  at = (pv ∷ [], (sv ∷ [], (hv ∷ [], (rv ∷ [], (s ∷ [], tt)))))
 
   abbrev Entry : SProp 𝓤
   Entry = onEntry 𝓤 H A outer.signature κs qs a at
@@ -212,7 +227,7 @@ module _
 
   -- what `begin` says of its result, and of the marks that it leaves
   abbrev Told : Begun → List ℕ → Type 0
-  Told r m = Begins (lentAreas sh hp rc) (length ys) r m
+  Told r m = Begins pf (lentAreas sh hp rc) (length ys) r m
 
   -- ---- the call of `begin`, with the marks at l lent for ν under the name δ
   module _ (l ν : ℕ) (δ : GName) where
@@ -228,11 +243,11 @@ module _
     abbrev begin-qs : Shares 4
     begin-qs = (q₀, (q₁, (q₂, (fullShare, tt))))
 
-    abbrev begin-a : RefT (List ℕ) × (RefT (List ℕ) × (RefT (List ℕ) × (ℕ × (RefT (List ℕ) × Unit {0}))))
-    begin-a = (sh, (hp, (rc, (length ys, (marks-lent, tt)))))
+    abbrev begin-a : Profile × (RefT (List ℕ) × (RefT (List ℕ) × (RefT (List ℕ) × (ℕ × (RefT (List ℕ) × Unit {0})))))
+    begin-a = (pf, (sh, (hp, (rc, (length ys, (marks-lent, tt))))))
 
-    abbrev begin-at : List Val × (List Val × (List Val × (List Val × (List Val × Unit {0}))))
-    begin-at = (sv ∷ [], (hv ∷ [], (rv ∷ [], (vint w64 (length ys) ∷ [], (vptr l 0 ∷ [], tt)))))
+    abbrev begin-at : List Val × (List Val × (List Val × (List Val × (List Val × (List Val × Unit {0})))))
+    begin-at = (pv ∷ [], (sv ∷ [], (hv ∷ [], (rv ∷ [], (vint w64 (length ys) ∷ [], (vptr l 0 ∷ [], tt))))))
 
     abbrev to-begin : Begin 𝓤 H A mem run .Ghost
     to-begin = ((begin-κs, begin-qs, tt, begin-a, begin-at), tt)
@@ -248,7 +263,7 @@ module _
         qed W For-begin ∵
         twice ! (named 0) κ₀ sh $ move ! (2 ∷ []) $ twice ! (named 1) κ₁ hp $ move ! (4 ∷ []) $ twice ! (named 2) κ₂ rc $
         nothing ! $ move ! (7 ∷ 0 ∷ []) $ fjoin ! $ number ! w64 (length ys) small $ move ! (1 ∷ 0 ∷ []) $ fjoin ! $ move ! (2 ∷ 0 ∷ []) $ fjoin ! $
-        move ! (3 ∷ 0 ∷ []) $ fjoin ! $
+        move ! (3 ∷ 0 ∷ []) $ fjoin ! $ owned ! P.the-row (Is P.the-row) (EL.makes P.the-type P′.the-plain 𝓤 H A) pf _ is-pf $ fjoin ! $
         nothing ! $ move ! (8 ∷ 0 ∷ []) $ join ! $ move ! (7 ∷ 0 ∷ []) $ join ! $ move ! (6 ∷ 0 ∷ []) $ join ! $ move ! (5 ∷ 0 ∷ []) $ join ! $
         use2 W (raw (Begin 𝓤 H A mem run .pre to-begin)) asked $ move ! (0 ∷ 3 ∷ 2 ∷ 1 ∷ []) $ done !
       where
@@ -257,10 +272,10 @@ module _
 
   -- the last values that it leaves
   abbrev Lasts : Type 0
-  Lasts = Unit {0} × (Unit {0} × (Unit {0} × (Unit {0} × (List ℕ × Unit {0}))))
+  Lasts = Unit {0} × (Unit {0} × (Unit {0} × (Unit {0} × (Unit {0} × (List ℕ × Unit {0})))))
 
   abbrev marks-of : Lasts → List ℕ
-  marks-of ws = ws .1 .1 .1 .1 .0
+  marks-of ws = ws .1 .1 .1 .1 .1 .0
 
   module _ (room : Room T.the-row (length ys)) (r : Begun) (m : List ℕ) (told : Told r m) where
     abbrev n : ℕ
@@ -282,14 +297,14 @@ module _
     exits w is-answer =
         qed W AtEnd ∵
         suffices ! _ (ends-at 𝓤 H A outer.ended stayed (outer.clauses 𝓤 H A mem run) W ((κs, qs, tt, a, at), tt) w (answerOf r)
-        (tt, (tt, (tt, (filled found ys n, tt)))) (tt, (tt, (tt, (long, tt))))) $
+        (tt, (tt, (tt, (tt, (filled found ys n, tt))))) (tt, (tt, (tt, (tt, (long, tt)))))) $
         says ! (sym (told .tells ys refl)) $
         nothing ! $ move ! (6 ∷ 0 ∷ []) $ join ! $ move ! (5 ∷ 0 ∷ []) $ join ! $ move ! (4 ∷ 0 ∷ []) $ join ! $ move ! (3 ∷ 0 ∷ []) $ join ! $ frame ! $
         -- [obs; the borrow; what the other areas own]: with the fact on the machine value it is what the slice owns
         fjoin ! $ pureI ! (at-slice T.the-row (x (filled found ys n)) (s ∷ [])) (tt, (tt, tt))
         (ap (λ (k : ℕ). sliceVal (b, o) k ∷ []) (sym long), subst (Room T.the-row) (sym long) room) $ fjoin ! $
         nothing ! $ move ! (1 ∷ 0 ∷ []) $ fjoin ! $ move ! (3 ∷ 0 ∷ []) $ fjoin ! $ move ! (2 ∷ 0 ∷ []) $ fjoin ! $ move ! (1 ∷ 0 ∷ []) $ fjoin ! $
-        owned ! I.the-row (Is I.the-row) (EL.makes I.the-type I′.the-plain 𝓤 H A) (answerOf r) _ is-answer $ move ! (1 ∷ 0 ∷ []) $ done !
+        nothing ! $ fjoin ! $ owned ! I.the-row (Is I.the-row) (EL.makes I.the-type I′.the-plain 𝓤 H A) (answerOf r) _ is-answer $ move ! (1 ∷ 0 ∷ []) $ done !
       where
         long : length (filled found ys n) ≡ length ys
         long = filled-length found ys n
@@ -308,13 +323,13 @@ module _
       module _
           (𝓣 : Tables 𝓤 H) (known : Triple 𝓤 (𝓣 .C #image·inspect·find) (Find 𝓤 H A mem run))
           (known-answer : Triple 𝓤 (𝓣 .C #image·inspect·answer-of) (AnswerOf 𝓤 H A mem run))
-          (ν : ℕ) (δ : GName) (l₀ l₁ l₂ l₃ l₄ l₅ l₆ l₇ l₈ l₉ l₁₀ l₁₁ l₁₂ l₁₃ l₁₄ l₁₅ : ℕ) where
+          (ν : ℕ) (δ : GName) (l₀ l₁ l₂ l₃ l₄ l₅ l₆ l₇ l₈ l₉ l₁₀ l₁₁ l₁₂ l₁₃ l₁₄ l₁₅ l₁₆ : ℕ) where
         -- the marks, lent for ν
         abbrev marks-at : RefT (List ℕ)
-        marks-at = record { ptr = (l₅, 0); name = δ; now = m }
+        marks-at = record { ptr = (l₆, 0); name = δ; now = m }
 
         abbrev MarksOwn : Fml
-        MarksOwn = ShrRef (named 2) (ν ∷ []) Marks .own marks-at (vptr l₅ 0 ∷ [])
+        MarksOwn = ShrRef (named 2) (ν ∷ []) Marks .own marks-at (vptr l₆ 0 ∷ [])
 
         -- ---- the call of `find` at i
         abbrev find-κs : Lfts 3
@@ -327,7 +342,7 @@ module _
         to-a i = (hp, (rc, (r, (marks-at, (i, tt)))))
 
         abbrev passed : ℕ → List Val × (List Val × (List Val × (List Val × (List Val × Unit {0}))))
-        passed i = (hv ∷ [], (rv ∷ [], (u ∷ [], (vptr l₅ 0 ∷ [], (vint w64 i ∷ [], tt)))))
+        passed i = (hv ∷ [], (rv ∷ [], (u ∷ [], (vptr l₆ 0 ∷ [], (vint w64 i ∷ [], tt)))))
 
         abbrev to : ℕ → Find 𝓤 H A mem run .Ghost
         to i = ((find-κs, find-qs, tt, to-a i, passed i), tt)
@@ -340,7 +355,7 @@ module _
         asks-find i i-fits below =
             qed W For-find ∵
             twice ! (named 1) κ₁ hp $ move ! (2 ∷ []) $ twice ! (named 2) κ₂ rc $ move ! (4 ∷ []) $
-            use1 W (‵ MarksOwn ⊛ ‵ MarksOwn) (shr-copy 𝓤 H A W (named 2) (ν ∷ []) Marks .twice marks-at (vptr l₅ 0 ∷ [])) $ split ! $
+            use1 W (‵ MarksOwn ⊛ ‵ MarksOwn) (shr-copy 𝓤 H A W (named 2) (ν ∷ []) Marks .twice marks-at (vptr l₆ 0 ∷ [])) $ split ! $
             nothing ! $ number ! w64 i i-fits $ move ! (1 ∷ 0 ∷ []) $ fjoin ! $
             owned ! B.the-row (Is B.the-row) (EL.makes B.the-type B′.the-plain 𝓤 H A) r _ is $ fjoin ! $
             move ! (2 ∷ 0 ∷ []) $ fjoin ! $ move ! (3 ∷ 0 ∷ []) $ fjoin ! $
@@ -353,23 +368,23 @@ module _
         -- ---- the loop
         abbrev En : Env 𝓤 H
         En =
-            (I′.mir, l₀) ∷ ((area-ty 0), l₁) ∷ ((area-ty 1), l₂) ∷ ((area-ty 2), l₃) ∷ (rows-ty, l₄) ∷ (marks-ty, l₅) ∷ (B′.mir, l₆) ∷ (word, l₇) ∷
-            (word, l₈) ∷ (word, l₉) ∷ (marks-mut, l₁₀) ∷ (tyBool, l₁₁) ∷ (T′.mir, l₁₂) ∷ (marks-ref, l₁₃) ∷ (word, l₁₄) ∷ (tyPtr, l₁₅) ∷ []
+            (I′.mir, l₀) ∷ (P′.mir, l₁) ∷ ((area-ty 0), l₂) ∷ ((area-ty 1), l₃) ∷ ((area-ty 2), l₄) ∷ (rows-ty, l₅) ∷ (marks-ty, l₆) ∷ (B′.mir, l₇) ∷
+            (word, l₈) ∷ (word, l₉) ∷ (word, l₁₀) ∷ (marks-mut, l₁₁) ∷ (tyBool, l₁₂) ∷ (T′.mir, l₁₃) ∷ (marks-ref, l₁₄) ∷ (word, l₁₅) ∷ (tyPtr, l₁₆) ∷ []
 
         -- the context at the head of a turn
         abbrev At : ℕ → List (Item 𝓤)
         At i =
             ‵ (row T.the-row fullShare (filled found ys i) b o) ∷ ‵ (flft κ₁ q₁) ∷ ‵ HeapOwn ∷ ‵ (flft κ₂ q₂) ∷ ‵ RecordsOwn ∷
-            ‵ (flft (ν ∷ []) fullShare) ∷ ‵ MarksOwn ∷ ‵ (fat fullShare word l₈ 0 (vint w64 i)) ∷ ‵ (froom tyBool l₁₁ 0) ∷ ‵ (froom T′.mir l₁₂ 0) ∷
-            ‵ (froom marks-ref l₁₃ 0) ∷ ‵ (froom word l₁₄ 0) ∷ ‵ (froom tyPtr l₁₅ 0) ∷ ‵ (fat fullShare rows-ty l₄ 0 s) ∷
-            ‵ (fat fullShare (area-ty 1) l₂ 0 hv) ∷ ‵ (fat fullShare (area-ty 2) l₃ 0 rv) ∷ ‵ (fat fullShare B′.mir l₆ 0 u) ∷
-            ‵ (fat fullShare word l₇ 0 (vint w64 n)) ∷ ‵ (froom I′.mir l₀ 0) ∷
+            ‵ (flft (ν ∷ []) fullShare) ∷ ‵ MarksOwn ∷ ‵ (fat fullShare word l₉ 0 (vint w64 i)) ∷ ‵ (froom tyBool l₁₂ 0) ∷ ‵ (froom T′.mir l₁₃ 0) ∷
+            ‵ (froom marks-ref l₁₄ 0) ∷ ‵ (froom word l₁₅ 0) ∷ ‵ (froom tyPtr l₁₆ 0) ∷ ‵ (fat fullShare rows-ty l₅ 0 s) ∷
+            ‵ (fat fullShare (area-ty 1) l₃ 0 hv) ∷ ‵ (fat fullShare (area-ty 2) l₄ 0 rv) ∷ ‵ (fat fullShare B′.mir l₇ 0 u) ∷
+            ‵ (fat fullShare word l₈ 0 (vint w64 n)) ∷ ‵ (froom I′.mir l₀ 0) ∷
             ‵ (fobor κ₃ q₃ (Held T.the-row (length ys) b o γ)) ∷ ‵ (Obs ys) ∷ ‵ (fauth γ (codedHoleys T.the-row .code (heres T.the-row ys))) ∷
-            ‵ (flent (ν ∷ []) (partAt Marks fullShare m l₅ 0)) ∷ ‵ (flft κ₀ q₀) ∷ ‵ SheetOwn ∷ ‵ (fat fullShare (area-ty 0) l₁ 0 sv) ∷
-            ‵ (fat fullShare word l₉ 0 (vint w64 (length ys))) ∷ ‵ (fat fullShare marks-mut l₁₀ 0 (vptr l₅ 0)) ∷
-            ‵ (fdies I′.mir l₀) ∷ ‵ (fdies (area-ty 0) l₁) ∷ ‵ (fdies (area-ty 1) l₂) ∷ ‵ (fdies (area-ty 2) l₃) ∷ ‵ (fdies rows-ty l₄) ∷
-            ‵ (fdies marks-ty l₅) ∷ ‵ (fdies B′.mir l₆) ∷ ‵ (fdies word l₇) ∷ ‵ (fdies word l₈) ∷ ‵ (fdies word l₉) ∷ ‵ (fdies marks-mut l₁₀) ∷
-            ‵ (fdies tyBool l₁₁) ∷ ‵ (fdies T′.mir l₁₂) ∷ ‵ (fdies marks-ref l₁₃) ∷ ‵ (fdies word l₁₄) ∷ ‵ (fdies tyPtr l₁₅) ∷ []
+            ‵ (flent (ν ∷ []) (partAt Marks fullShare m l₆ 0)) ∷ ‵ (flft κ₀ q₀) ∷ ‵ SheetOwn ∷ ‵ (fat fullShare P′.mir l₁ 0 pv) ∷
+            ‵ (fat fullShare (area-ty 0) l₂ 0 sv) ∷ ‵ (fat fullShare word l₁₀ 0 (vint w64 (length ys))) ∷ ‵ (fat fullShare marks-mut l₁₁ 0 (vptr l₆ 0)) ∷
+            ‵ (fdies I′.mir l₀) ∷ ‵ (fdies P′.mir l₁) ∷ ‵ (fdies (area-ty 0) l₂) ∷ ‵ (fdies (area-ty 1) l₃) ∷ ‵ (fdies (area-ty 2) l₄) ∷ ‵ (fdies rows-ty l₅) ∷
+            ‵ (fdies marks-ty l₆) ∷ ‵ (fdies B′.mir l₇) ∷ ‵ (fdies word l₈) ∷ ‵ (fdies word l₉) ∷ ‵ (fdies word l₁₀) ∷ ‵ (fdies marks-mut l₁₁) ∷
+            ‵ (fdies tyBool l₁₂) ∷ ‵ (fdies T′.mir l₁₃) ∷ ‵ (fdies marks-ref l₁₄) ∷ ‵ (fdies word l₁₅) ∷ ‵ (fdies tyPtr l₁₆) ∷ []
 
         -- the invariant, where t rows are left
         abbrev Inv : ℕ → SProp 𝓤
@@ -392,7 +407,7 @@ module _
         more i X small k =
             qed W (At i) ∵ exec ! (𝓣 .C) (𝓣 .Λ) En body.turn-1 (anyQ (afterTurn 𝓤 H X Left)) $
             to-local ! (bin ! (of-local ! 7 refl) (of-local ! 17 refl) tt) (init ! 8 refl (tt, tt)) $
-            rewrite ! 8 (λ (t : Bool). ‵ (fat fullShare tyBool l₁₁ 0 (vbool t))) (lt-ltb i n small) refl $ stays ! (of-local ! 8 refl) $
+            rewrite ! 8 (λ (t : Bool). ‵ (fat fullShare tyBool l₁₂ 0 (vbool t))) (lt-ltb i n small) refl $ stays ! (of-local ! 8 refl) $
             to-local ! (addr ! (from ! (stop !))) (init ! 10 refl (tt, tt)) $
             move ! (2 ∷ 4 ∷ 6 ∷ 1 ∷ 3 ∷ 5 ∷ []) $ group ! 6 $
             use1 W (raw (Find 𝓤 H A mem run .pre (to i)) ⊛ ‵ HeapOwn ⊛ ‵ RecordsOwn ⊛ ‵ MarksOwn) (asks-find i i-fits small) $
@@ -409,7 +424,7 @@ module _
             land ! (from ! (stop !)) (init ! 9 refl (LL.lawful T.the-type T′.the-laws 𝓤 H A W .typed (found i) _ is-found .0)) $
             to-local ! (bin ! (of-local ! 7 refl) (lit ! tt) (record { fits = place-fits })) (init ! 11 refl (tt, record { fits = place-fits })) $
             to-local ! (bin ! (of-field ! 13 0 refl refl refl) (of-local ! 11 refl) tt) (init ! 12 refl (tt, tt)) $
-            rewrite ! 12 (λ (p : ℕ). ‵ (fat fullShare tyPtr l₁₅ 0 (vptr b p))) (sym (place-is 16 o i)) refl $
+            rewrite ! 12 (λ (p : ℕ). ‵ (fat fullShare tyPtr l₁₆ 0 (vptr b p))) (sym (place-is 16 o i)) refl $
             move ! (6 ∷ []) $ elem-out ! T.the-row (Is T.the-row) (shows 𝓤 H A T.the-row) (LL.vals T.the-type T′.the-laws)
             (LL.tells T.the-type T′.the-laws) fullShare (filled found ys i) i (found i) b o here (λ _.
             -- [rows[i]; what it owns; the others; and the rest]
@@ -420,7 +435,7 @@ module _
             assigns-last ! (bin ! (of-local ! 7 refl) (lit ! tt) (record { fits = next-fits })) (from ! (stop !))
             (store ! 7 refl (tt, record { fits = next-fits })) $
             forget ! 8 refl $ forget ! 9 refl $ forget ! 10 refl $ forget ! 11 refl $ forget ! 12 refl $
-            rewrite ! 7 (λ (j : ℕ). ‵ (fat fullShare word l₈ 0 (vint w64 j))) (add-one i) refl $ move ! (0 ∷ 3 ∷ 6 ∷ 2 ∷ 4 ∷ 1 ∷ 5 ∷ []) $ by ! k))))
+            rewrite ! 7 (λ (j : ℕ). ‵ (fat fullShare word l₉ 0 (vint w64 j))) (add-one i) refl $ move ! (0 ∷ 3 ∷ 6 ∷ 2 ∷ 4 ∷ 1 ∷ 5 ∷ []) $ by ! k))))
           where
             i-fits : i < 2 ^ 64
             i-fits = omega (arith, small, n-fits)
@@ -443,7 +458,7 @@ module _
         ends X =
             qed W (At n) ∵ exec ! (𝓣 .C) (𝓣 .Λ) En body.turn-1 (anyQ (afterTurn 𝓤 H X Left)) $
             to-local ! (bin ! (of-local ! 7 refl) (of-local ! 17 refl) tt) (init ! 8 refl (tt, tt)) $
-            rewrite ! 8 (λ (t : Bool). ‵ (fat fullShare tyBool l₁₁ 0 (vbool t))) (le-ltb n n (omega arith)) refl $
+            rewrite ! 8 (λ (t : Bool). ‵ (fat fullShare tyBool l₁₂ 0 (vbool t))) (le-ltb n n (omega arith)) refl $
             leaves-loop ! (of-local ! 8 refl) $ exec ! (𝓣 .C) (𝓣 .Λ) En body.t-8 (atRet En Post) $
             nothing ! $ owned ! B.the-row (Is B.the-row) (EL.makes B.the-type B′.the-plain 𝓤 H A) r _ is $ fjoin ! $ nothing ! $
             use2 W (raw (AnswerOf 𝓤 H A mem run .pre to-answer)) asks-answer $
@@ -454,12 +469,12 @@ module _
             land ! (from ! (stop !)) (init ! 18 refl (EL.lawful I.the-type I′.the-laws 𝓤 H A W tt .typed (answerOf r) _ is-answer .0)) $
             -- the marks come back, and the borrow of the rows is closed at what is filled
             move ! (5 ∷ []) $ lft-end ! tt $ move ! (0 ∷ 22 ∷ []) $ lent-back ! tt $
-            use1 W (‵ (froom marks-ty l₅ 0)) (freed 𝓤 H A W u8 512 l₅ 0 (uint-vals w8) (uint-tells w8) m) $
+            use1 W (‵ (froom marks-ty l₆ 0)) (freed 𝓤 H A W u8 512 l₆ 0 (uint-vals w8) (uint-tells w8) m) $
             move ! (1 ∷ 19 ∷ 20 ∷ 21 ∷ []) $ closes-slice ! tt T.the-row ys (filled found ys n) (filled-length found ys n) b o $
             returns ! (look ! 20 refl) $
-            leaves ! 20 26 refl refl $ leaves ! 22 25 refl refl $ leaves ! 16 24 refl refl $ leaves ! 16 23 refl refl $ leaves ! 15 22 refl refl $
-            move ! (3 ∷ 21 ∷ []) $ free1 ! $ leaves ! 14 20 refl refl $ leaves ! 14 19 refl refl $ leaves ! 8 18 refl refl $ leaves ! 15 17 refl refl $
-            leaves ! 15 16 refl refl $ leaves ! 8 15 refl refl $ move ! (8 ∷ 14 ∷ []) $ free1 ! $ move ! (8 ∷ 13 ∷ []) $ free1 ! $
+            leaves ! 20 27 refl refl $ leaves ! 22 26 refl refl $ leaves ! 22 25 refl refl $ leaves ! 16 24 refl refl $ leaves ! 16 23 refl refl $
+            leaves ! 15 22 refl refl $ move ! (3 ∷ 21 ∷ []) $ free1 ! $ leaves ! 14 20 refl refl $ leaves ! 14 19 refl refl $ leaves ! 8 18 refl refl $
+            leaves ! 15 17 refl refl $ leaves ! 15 16 refl refl $ leaves ! 8 15 refl refl $ move ! (8 ∷ 14 ∷ []) $ free1 ! $ move ! (8 ∷ 13 ∷ []) $ free1 ! $
             move ! (8 ∷ 12 ∷ []) $ free1 ! $ move ! (8 ∷ 11 ∷ []) $ free1 ! $ free0 ! $
             keep ! (0 ∷ 1 ∷ 8 ∷ 3 ∷ 5 ∷ 2 ∷ 9 ∷ 4 ∷ 6 ∷ []) $ by ! (exits w is-answer))))
 
@@ -490,13 +505,14 @@ module _
       → Triple 𝓤 (𝓣 .C #image·inspect·count-of) (CountOf 𝓤 H A mem run) → Triple 𝓤 (𝓣 .C #image·inspect·find) (Find 𝓤 H A mem run)
       → Triple 𝓤 (𝓣 .C #image·inspect·answer-of) (AnswerOf 𝓤 H A mem run)
       → Room u8 (length (sh .now)) → Room u8 (length (hp .now)) → Room u8 (length (rc .now)) → Room T.the-row (length ys)
-      → ent 𝓤 Entry (WpFn 𝓤 H (𝓣 .C) (𝓣 .Λ) function (sv ∷ hv ∷ rv ∷ s ∷ []) Post)
+      → ent 𝓤 Entry (WpFn 𝓤 H (𝓣 .C) (𝓣 .Λ) function (pv ∷ sv ∷ hv ∷ rv ∷ s ∷ []) Post)
   walk 𝓣 known-begin known-count known known-answer sheet-room heap-room records-room room =
-      qed W ((‵ (flft κ₀ q₀) ⊛ ‵ (flft κ₁ q₁) ⊛ ‵ (flft κ₂ q₂) ⊛ ‵ (flft κ₃ q₃) ⊛ ‵ ftrue) ∷ ‵ (owns (ShrSlice (named 0) κ₀ u8 ∷
+      qed W ((‵ (flft κ₀ q₀) ⊛ ‵ (flft κ₁ q₁) ⊛ ‵ (flft κ₂ q₂) ⊛ ‵ (flft κ₃ q₃) ⊛ ‵ ftrue) ∷ ‵ (owns (P.the-row ∷ ShrSlice (named 0) κ₀ u8 ∷
       ShrSlice (named 1) κ₁ u8 ∷ ShrSlice (named 2) κ₂ u8 ∷ MutSlice (named 3) κ₃ T.the-row ∷ []) a at) ∷ []) ∵
-      enter ! (𝓣 .C) (𝓣 .Λ) function (sv ∷ hv ∷ rv ∷ s ∷ []) _ $
+      enter ! (𝓣 .C) (𝓣 .Λ) function (pv ∷ sv ∷ hv ∷ rv ∷ s ∷ []) _ $
       alloc1 ! (λ l₀. alloc1 ! (λ l₁. alloc1 ! (λ l₂. alloc1 ! (λ l₃. alloc1 ! (λ l₄. alloc1 ! (λ l₅. alloc1 ! (λ l₆. alloc1 ! (λ l₇. alloc1 ! (λ l₈.
-      alloc1 ! (λ l₉. alloc1 ! (λ l₁₀. alloc1 ! (λ l₁₁. alloc1 ! (λ l₁₂. alloc1 ! (λ l₁₃. alloc1 ! (λ l₁₄. alloc1 ! (λ l₁₅. alloc0 ! $ params1 ! $
+      alloc1 ! (λ l₉. alloc1 ! (λ l₁₀. alloc1 ! (λ l₁₁. alloc1 ! (λ l₁₂. alloc1 ! (λ l₁₃. alloc1 ! (λ l₁₄. alloc1 ! (λ l₁₅. alloc1 ! (λ l₁₆.
+      alloc0 ! $ params1 ! $ pass1 ! (init ! 30 refl (EL.lawful P.the-type P′.the-laws 𝓤 H A W tt .typed pf _ is-pf .0)) $
       pass1 ! (init ! 28 refl (tt, (tt, (record { fits = sheet-room .0 }, tt)))) $ pass1 ! (init ! 26 refl (tt, (tt, (record { fits = heap-room .0 }, tt)))) $
       pass1 ! (init ! 24 refl (tt, (tt, (record { fits = records-room .0 }, tt)))) $ pass1 ! (init ! 22 refl (tt, (tt, (record { fits = room .0 }, tt)))) $
       pass0 ! $
@@ -505,26 +521,27 @@ module _
       to-local ! (addr ! (from ! (stop !))) (init ! 10 refl (tt, tt)) $
       -- the marks are lent to `begin`
       move ! (20 ∷ []) $ laid ! u8 (uint-makes 𝓤 H A W w8) zeros zeros-are $
-      lft-new ! tt (λ ν. move ! (1 ∷ []) $ lent-mut ! tt (named 3) (ν ∷ []) Marks zeros l₅ (λ δ.
-      move ! (35 ∷ []) $ fsplit ! $ move ! (1 ∷ []) $ fsplit ! $ move ! (1 ∷ []) $ fsplit ! $ move ! (1 ∷ []) $ fsplit ! $
-      move ! (39 ∷ []) $ split ! $ move ! (1 ∷ []) $ split ! $ move ! (1 ∷ []) $ split ! $ move ! (1 ∷ []) $ split ! $
+      lft-new ! tt (λ ν. move ! (1 ∷ []) $ lent-mut ! tt (named 3) (ν ∷ []) Marks zeros l₆ (λ δ.
+      move ! (37 ∷ []) $ fsplit ! $ drop ! $ fsplit ! $ move ! (1 ∷ []) $ fsplit ! $ move ! (1 ∷ []) $ fsplit ! $ move ! (1 ∷ []) $ fsplit ! $
+      move ! (41 ∷ []) $ split ! $ move ! (1 ∷ []) $ split ! $ move ! (1 ∷ []) $ split ! $ move ! (1 ∷ []) $ split ! $
       move ! (9 ∷ 8 ∷ 7 ∷ 10 ∷ 4 ∷ 3 ∷ 2 ∷ 12 ∷ []) $ group ! 8 $
-      use1 W (raw (Begin 𝓤 H A mem run .pre (to-begin l₅ ν δ)) ⊛ ‵ SheetOwn ⊛ ‵ HeapOwn ⊛ ‵ RecordsOwn) (asks-begin l₅ ν δ (room .0)) $
+      use1 W (raw (Begin 𝓤 H A mem run .pre (to-begin l₆ ν δ)) ⊛ ‵ SheetOwn ⊛ ‵ HeapOwn ⊛ ‵ RecordsOwn) (asks-begin l₆ ν δ (room .0)) $
       split ! $ move ! (1 ∷ []) $ split ! $ move ! (1 ∷ []) $ split ! $ move ! (3 ∷ []) $
-      calls-at ! (fmOf 𝓤 H (W .laws) 𝓣) (Begin 𝓤 H A mem run) known-begin (to-begin l₅ ν δ) (and-then ! (of-local ! 36 refl) (and-then ! (of-local ! 34 refl)
-      (and-then ! (of-local ! 32 refl) (and-then ! (of-local ! 21 refl) (and-then ! (of-local ! 19 refl) (no-more !)))))) (λ u.
+      calls-at ! (fmOf 𝓤 H (W .laws) 𝓣) (Begin 𝓤 H A mem run) known-begin (to-begin l₆ ν δ) (and-then ! (of-local ! 38 refl)
+      (and-then ! (of-local ! 36 refl) (and-then ! (of-local ! 34 refl) (and-then ! (of-local ! 32 refl)
+      (and-then ! (of-local ! 21 refl) (and-then ! (of-local ! 19 refl) (no-more !))))))) (λ u.
       use1 W (later (some (λ (r : Begun).
       ((‵ (flft κ₀ q₀) ⊛ ‵ (flft κ₁ q₁) ⊛ ‵ (flft κ₂ q₂) ⊛ ‵ (flft (ν ∷ []) fullShare) ⊛ ‵ ftrue) ⊛ ‵ (B.the-row .own r (u ∷ [])))
-      ⊛ raw (ensured 𝓤 H A begin.ended (begin.clauses 𝓤 H A mem run) (begin-κs l₅ ν δ) (begin-a l₅ ν δ) tt r)))) (id⊢ 𝓤 _) $
+      ⊛ raw (ensured 𝓤 H A begin.ended (begin.clauses 𝓤 H A mem run) (begin-κs l₆ ν δ) (begin-a l₆ ν δ) tt r)))) (id⊢ 𝓤 _) $
       await ! tt $ pick ! (λ r. split ! $ move ! (1 ∷ []) $
-      use1 W (some (λ (ws : Lasts). ‵ (lasts begin.ended (begin-κs l₅ ν δ) (begin-a l₅ ν δ) ws) ⊛ raw (fact 𝓤 (Told r (marks-of ws))))) (id⊢ 𝓤 _) $
+      use1 W (some (λ (ws : Lasts). ‵ (lasts begin.ended (begin-κs l₆ ν δ) (begin-a l₆ ν δ) ws) ⊛ raw (fact 𝓤 (Told r (marks-of ws))))) (id⊢ 𝓤 _) $
       pick ! (λ ws. split ! $ move ! (1 ∷ []) $ heard ! (Told r (marks-of ws)) (λ told.
-      fsplit ! $ drop ! $ fsplit ! $ drop ! $ fsplit ! $ drop ! $ fsplit ! $ drop ! $ fsplit ! $
+      fsplit ! $ drop ! $ fsplit ! $ drop ! $ fsplit ! $ drop ! $ fsplit ! $ drop ! $ fsplit ! $ drop ! $ fsplit ! $
       move ! (2 ∷ []) $ split ! $ move ! (1 ∷ []) $ peeks ! B.the-row (Is B.the-row) (shows 𝓤 H A B.the-row) r (u ∷ []) (λ is. drop ! $
       -- [the tokens; the last value; …; what the areas own; the token of the rows; …; what the rows own; …; the lender's part; and the rest]
       land ! (from ! (stop !)) (init ! 29 refl (EL.lawful B.the-type B′.the-laws 𝓤 H A W tt .typed r _ is .0)) $
       split ! $ move ! (1 ∷ []) $ split ! $ move ! (1 ∷ []) $ split ! $ move ! (1 ∷ []) $ split ! $
-      lft-end ! tt $ move ! (0 ∷ 14 ∷ 5 ∷ []) $ mut-back ! tt (ν ∷ []) Marks δ (marks-of ws) l₅ $
+      lft-end ! tt $ move ! (0 ∷ 14 ∷ 5 ∷ []) $ mut-back ! tt (ν ∷ []) Marks δ (marks-of ws) l₆ $
       -- how many buffers are judged
       nothing ! $ owned ! B.the-row (Is B.the-row) (EL.makes B.the-type B′.the-plain 𝓤 H A) r _ is $ fjoin ! $ nothing ! $
       use2 W (raw (CountOf 𝓤 H A mem run .pre (to-count room r (marks-of ws) told u is))) (asks 𝓤 _) $
@@ -534,15 +551,16 @@ module _
       refl (λ _ _. refl) (λ k e. rewrite ! 0 (λ (j : ℕ). ‵ (usize .own j (w ∷ []))) e refl $
       peeks ! usize (Is usize) (shows 𝓤 H A usize) (countOf r) (w ∷ []) (λ is-n. drop ! $ drop ! $
       land ! (from ! (stop !)) (init ! 29 refl (uint-lawful 𝓤 H A W w64 .typed (countOf r) _ is-n .0)) $
-      rewrite ! 29 (λ (v : Val). ‵ (fat fullShare word l₇ 0 v)) (ap only (uint-tells w64 (countOf r) _ is-n)) refl $
+      rewrite ! 29 (λ (v : Val). ‵ (fat fullShare word l₈ 0 v)) (ap only (uint-tells w64 (countOf r) _ is-n)) refl $
       to-local ! (of-opd ! (lit ! tt)) (init ! 27 refl (tt, record { fits = lit< tt })) $
       -- the marks are lent for a lifetime of the loop
-      lft-new ! tt (λ ν₂. move ! (1 ∷ []) $ lent ! tt (named 2) (ν₂ ∷ []) Marks (marks-of ws) l₅ (λ δ₂.
+      lft-new ! tt (λ ν₂. move ! (1 ∷ []) $ lent ! tt (named 2) (ν₂ ∷ []) Marks (marks-of ws) l₆ (λ δ₂.
       -- the borrow of the rows is opened
       move ! (13 ∷ []) $ fsplit ! $ move ! (1 ∷ []) $ fsplit ! $ move ! (0 ∷ 1 ∷ 14 ∷ []) $ opens-slice ! tt T.the-row ys b o $
-      keep ! (0 ∷ 10 ∷ 13 ∷ 9 ∷ 14 ∷ 7 ∷ 5 ∷ 32 ∷ 26 ∷ 24 ∷ 22 ∷ 20 ∷ 18 ∷ 39 ∷ 43 ∷ 41 ∷ 36 ∷ 34 ∷ 47 ∷ 1 ∷ 2 ∷ 3 ∷ 6 ∷ 11 ∷ 15 ∷ 45 ∷ 30 ∷ 28 ∷
-      48 ∷ 46 ∷ 44 ∷ 42 ∷ 40 ∷ 38 ∷ 37 ∷ 35 ∷ 33 ∷ 31 ∷ 29 ∷ 27 ∷ 25 ∷ 23 ∷ 21 ∷ 19 ∷ []) $
-      by ! (loops room r (marks-of ws) told u is 𝓣 known known-answer ν₂ δ₂ l₀ l₁ l₂ l₃ l₄ l₅ l₆ l₇ l₈ l₉ l₁₀ l₁₁ l₁₂ l₁₃ l₁₄ l₁₅)))))))))))))))))))))))))))))
+      keep ! (0 ∷ 10 ∷ 13 ∷ 9 ∷ 14 ∷ 7 ∷ 5 ∷ 32 ∷ 26 ∷ 24 ∷ 22 ∷ 20 ∷ 18 ∷ 39 ∷ 43 ∷ 41 ∷ 36 ∷ 34 ∷ 49 ∷ 1 ∷ 2 ∷ 3 ∷ 6 ∷ 11 ∷ 15 ∷ 47 ∷ 45 ∷ 30 ∷ 28 ∷
+      50 ∷ 48 ∷ 46 ∷ 44 ∷ 42 ∷ 40 ∷ 38 ∷ 37 ∷ 35 ∷ 33 ∷ 31 ∷ 29 ∷ 27 ∷ 25 ∷ 23 ∷ 21 ∷ 19 ∷ []) $
+      by ! (loops room r (marks-of ws) told u is 𝓣 known known-answer ν₂ δ₂
+      l₀ l₁ l₂ l₃ l₄ l₅ l₆ l₇ l₈ l₉ l₁₀ l₁₁ l₁₂ l₁₃ l₁₄ l₁₅ l₁₆))))))))))))))))))))))))))))))
 
 module _
     {M : Type 1} (𝓤 : URA M) (H : Heap 𝓤) (A : Atoms 𝓤) (W : Given 𝓤 H A) (mem : Memory → SProp 𝓤) (run : Routine → Fun 𝓤) (𝓣 : Tables 𝓤 H)
@@ -553,18 +571,23 @@ module _
   inspect-walks : Walks 𝓤 H A outer.ended stayed (WpFn 𝓤 H (𝓣 .C) (𝓣 .Λ) function) (outer.clauses 𝓤 H A mem run)
   inspect-walks =
       walked 𝓤 H A outer.ended stayed (outer.clauses 𝓤 H A mem run) (WpFn 𝓤 H (𝓣 .C) (𝓣 .Λ) function)
-      (λ κs. (slice-vals, (slice-vals, (slice-vals, (slice-vals, tt)))))
-      (λ κs. (tells-bytes 0 (κs .0), (tells-bytes 1 (κs .1 .0), (tells-bytes 2 (κs .1 .1 .0), (mut-slice-tells (named 3) (κs .1 .1 .1 .0) T.the-row, tt)))))
-      (λ κs qs bounds a g are. via 𝓤 _ (fst∗ 𝓤 _ (emp 𝓤)) (let y = a .1 .1 .1 .0 in
+      (λ κs. (EL.vals P.the-type P′.the-laws, (slice-vals, (slice-vals, (slice-vals, (slice-vals, tt))))))
+      (λ κs. (
+        EL.tells P.the-type P′.the-laws,
+        (tells-bytes 0 (κs .0), (tells-bytes 1 (κs .1 .0), (tells-bytes 2 (κs .1 .1 .0), (mut-slice-tells (named 3) (κs .1 .1 .1 .0) T.the-row, tt)))),
+      ))
+      (λ κs qs bounds a g are. via 𝓤 _ (fst∗ 𝓤 _ (emp 𝓤)) (let y = a .1 .1 .1 .1 .0 in
       walk 𝓤 H A W mem run (κs .0) (κs .1 .0) (κs .1 .1 .0) (κs .1 .1 .1 .0) (qs .0) (qs .1 .0) (qs .1 .1 .0) (qs .1 .1 .1 .0)
-      (a .0) (a .1 .0) (a .1 .1 .0) (y .ptr .0) (y .ptr .1) (y .name) (y .now)
-      𝓣 known-begin known-count known known-answer (are .0 .0 .1) (are .1 .0 .0 .1) (are .1 .1 .0 .0 .1) (are .1 .1 .1 .0 .0 .1)))
+      (a .0) (are .0) (a .1 .0) (a .1 .1 .0) (a .1 .1 .1 .0) (y .ptr .0) (y .ptr .1) (y .name) (y .now)
+      𝓣 known-begin known-count known known-answer (are .1 .0 .0 .1) (are .1 .1 .0 .0 .1) (are .1 .1 .1 .0 .0 .1) (are .1 .1 .1 .1 .0 .0 .1)))
 
   inspect-meets : Meets 𝓤 H A outer.signature (WpFn 𝓤 H (𝓣 .C) (𝓣 .Λ) code.function) (outer.spec 𝓤 H A mem run)
   inspect-meets =
       subst (λ (f : Fn). Meets 𝓤 H A outer.signature (WpFn 𝓤 H (𝓣 .C) (𝓣 .Λ) f) (outer.spec 𝓤 H A mem run)) is-function
-      (walk-meets 𝓤 H A outer.ended stayed W
-      (goes-bytes 𝓤 H A W 4 0 tt, (goes-bytes 𝓤 H A W 4 1 tt, (goes-bytes 𝓤 H A W 4 2 tt, (goes-slice 𝓤 H A W 4 3 tt (plain (λ _. T.the-row)), tt))))
+      (walk-meets 𝓤 H A outer.ended stayed W (
+        goes-dropped 𝓤 H A W 4 ProfileS yes (λ κs x f. refl),
+        (goes-bytes 𝓤 H A W 4 0 tt, (goes-bytes 𝓤 H A W 4 1 tt, (goes-bytes 𝓤 H A W 4 2 tt, (goes-slice 𝓤 H A W 4 3 tt (plain (λ _. T.the-row)), tt)))),
+      )
       (outer.clauses 𝓤 H A mem run)
       (WpFn 𝓤 H (𝓣 .C) (𝓣 .Λ) function) (WpFn-mono 𝓤 H (W .laws) 𝓣 function) inspect-walks)
 

@@ -20,14 +20,14 @@ abbrev μ-loop : tie.MeasureT-loop
 μ-loop records₀ g n i₀ records i = g .count - i
 
 loop-holds : tie.Need-loop-holds Inv-loop μ-loop
-loop-holds c = let s = c .before in let g = s .args .g in (omega arith, refl, flat-none recordSize (laidRecord g) (laid-record-long g) _)
+loop-holds c = let s = c .before in let g = s .args .g in (omega arith, refl, flat-none (recordSize (g .format .profile)) (laidRecord g) (laid-record-long g) _)
 
 loop-again : tie.Need-loop-again Inv-loop μ-loop
 loop-again c =
     let l = c .before .before .before .before .before in
     let s = l .before .before in
     let g = s .args .g in
-    (search needs, search needs, flat-more recordSize (laidRecord g) (laid-record-long g) _ _ (l .loop .inv .2) (c .before .before .write-record .ensures))
+    (search needs, search needs, flat-more (recordSize (g .format .profile)) (laidRecord g) (laid-record-long g) _ _ (l .loop .inv .2) (c .before .before .write-record .ensures))
 
 returns : tie.Need-returns Inv-loop μ-loop
 unfolding laidAreas
@@ -35,7 +35,7 @@ returns c =
     let s = c .before .before .before in
     let g = s .args .g in
     let l = c .before .loop in
-    flat-whole recordSize (laidRecord g) (laid-record-long g) _ (l .i) _ (s .pre .1) (l .inv .2) (omega arith)
+    flat-whole (recordSize (g .format .profile)) (laidRecord g) (laid-record-long g) _ (l .i) _ (s .pre .1) (l .inv .2) (omega arith)
 
 pub write-records-spec : {M : Type 1} → statement M
 write-records-spec =

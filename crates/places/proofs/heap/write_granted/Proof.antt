@@ -15,7 +15,7 @@ write-granted-requires c κs =
     let p = s .pre in
     let e = c .before .before .chunk-place .ensures in (
       lent-lawful _ _ _ _ (p .0) (p .1 .0) (p .1 .1 .0) e,
-      ap (λ (n : ℕ). lawfulSize n (s .args .grant)) (lent-size _ _ _ _ (p .0) (p .1 .0) (p .1 .1 .0) e) ∙ p .1 .1 .1,
+      ap (λ (n : ℕ). lawfulSize (s .args .g .format .profile) n (s .args .grant)) (lent-size _ _ _ _ (p .0) (p .1 .0) (p .1 .1 .0) e) ∙ p .1 .1 .1,
     )
 
 returns : tie.Need-returns

@@ -9,7 +9,7 @@ use Rattle.report.proofs.answer.report.Tie as tie
 report-image-requires : tie.Need-report-image-requires
 report-image-requires c κs =
     let o = c .before .before in
-    logged-known _ _ _ _ _ (sym (o .before .before .open-with-log .ensures) ∙ o .opened2 .given .1) .0 .opens
+    logged-known _ _ _ _ _ _ (sym (o .before .before .open-with-log .ensures) ∙ o .opened2 .given .1) .0 .opens
 
 returns : tie.Need-returns
 unfolding reportOf

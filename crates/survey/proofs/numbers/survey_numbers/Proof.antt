@@ -18,7 +18,7 @@ use Rattle.survey.proofs.numbers.survey_numbers.Tie as tie
 known : (c : tie.After-opened2) → let o = c .before .before .before .before in
     let a = o .before .before .before .before .before .args in
     Open (length (a .heap .now)) (length (a .records .now)) (c .opened2 .given .0 .0)
-known c = logged-known _ _ _ _ _ (sym (c .before .before .open-with-log .ensures) ∙ c .opened2 .given .1) .0 .opens
+known c = logged-known _ _ _ _ _ _ (sym (c .before .before .open-with-log .ensures) ∙ c .opened2 .given .1) .0 .opens
 
 put-chain-requires : tie.Need-put-chain-requires
 put-chain-requires c κs =

@@ -14,7 +14,7 @@ use Rattle.survey.proofs.table.tabulate.Tie as tie
 known : (c : tie.After-opened2) →
     let a = c .before .before .before .before .before .before .before .args in
     Open (length (a .heap .now)) (length (a .records .now)) (c .opened2 .given .0 .0)
-known c = opened-known _ _ _ _ (sym (c .before .before .«open» .ensures) ∙ c .opened2 .given .1) .opens
+known c = opened-known _ _ _ _ _ (sym (c .before .before .«open» .ensures) ∙ c .opened2 .given .1) .opens
 
 returns-3 : tie.Need-returns-3
 unfolding tabulateOf

@@ -8,7 +8,7 @@ use Rattle.transactions.proofs.latest.find_latest.Tie as tie
 
 latest-of-requires : tie.Need-latest-of-requires
 latest-of-requires c κs =
-    let o = logged-known _ _ _ _ _ (sym (c .before .before .before .open-with-log .ensures) ∙ c .before .opened2 .given .1) in
+    let o = logged-known _ _ _ _ _ _ (sym (c .before .before .before .open-with-log .ensures) ∙ c .before .opened2 .given .1) in
     (o .0 .opens .law, (o .0 .opens .recordsLong, o .1))
 
 pub find-latest-spec : {M : Type 1} → statement M

@@ -20,8 +20,8 @@ latest-spec =
     tie.close
     (tie.spec
     (λ c κs. search needs) (λ c. search needs) (λ c. search needs) (λ c. search needs) (λ c. search needs) (λ c. search needs)
-    (λ c κs. row-known _ _ _ _ _ (sym (c .before .before .before .find-latest .ensures) ∙ c .before .found .given .1) .0)
+    (λ c κs. row-known _ _ _ _ _ _ (sym (c .before .before .before .find-latest .ensures) ∙ c .before .found .given .1) .0)
     (λ c. search needs)
-    (λ c κs. record-known _ _ _ _ _ (sym (c .before .before .before .find-latest .ensures) ∙ c .before .found2 .given .1) .0)
+    (λ c κs. record-known _ _ _ _ _ _ (sym (c .before .before .before .find-latest .ensures) ∙ c .before .found2 .given .1) .0)
     (λ c. rw (← c .before .before .before .find-latest .ensures, c .before .enum-told .given .1) (refl, tt))
     returns-2 returns-3)

@@ -4,6 +4,7 @@ use native.Mathlib.Omega.{arith}
 use borrow.Author.Needs.{needs}
 use Rattle.area.specs.Record.{recordSize}
 use Rattle.area.proofs.Places.{place-at}
+use Rattle.area.proofs.Records.{record-least}
 use Rattle.verdicts.proofs.judge.find_named.Statement.{statement}
 use Rattle.verdicts.proofs.judge.find_named.Tie as tie
 
@@ -12,7 +13,8 @@ returns c =
     let s = c .before .before in
     let g = s .args .g in
     sym
-    (place-at (g .«record_base») recordSize (g .count) (s .args .t0) (s .args .i) (omega arith) (s .pre .1)
+    (place-at (g .«record_base») (recordSize (g .format .profile)) (g .count) (s .args .t0) (s .args .i)
+    (omega (arith, record-least (g .format .profile))) (s .pre .1)
     (sym (c .if1 .taken) ∙ c .before .record-address .ensures))
 
 pub find-named-spec : {M : Type 1} → statement M

@@ -6,6 +6,7 @@ use borrow.Author.Needs.{needs}
 use lib.ListN.{length, getD}
 use Rattle.words.proofs.Parts.{length-part}
 use Rattle.area.specs.Record.{recordSize, addressWord}
+use Rattle.area.proofs.Records.{record-least}
 use Rattle.area.proofs.Places.{place-found, place-missed, address-one}
 use Rattle.chunks.specs.Chunk.{ChunkLength, tagAt}
 use Rattle.tags.specs.Tag.{patternOf}
@@ -70,7 +71,7 @@ module _ (c : tie.After-p) where
       (index < g .count) × (tagAt (g .format) (chunkAt (judging start) (start .args .i)) .t0 ≡ recordAddress g index)
   found =
       let g = start .args .g in
-      let f = place-found (g .«record_base») recordSize (g .count) _ index (sym (c .before .before .find-named .ensures) ∙ c .p .given .1) in
+      let f = place-found (g .«record_base») (recordSize (g .format .profile)) (g .count) _ index (sym (c .before .before .find-named .ensures) ∙ c .p .given .1) in
       (f .0, sym (ap (λ (t : Tag). t .t0) (tag-read (c .before .before .before))) ∙ f .1)
 
 returns : tie.Need-returns
@@ -99,7 +100,8 @@ returns-2 c =
     let other =
     verdict-other (judging s) (s .args .i) (one-names (p .before .before .before))
     (λ j l w e.
-    let same = address-one (s .args .g .«record_base») recordSize (index p) j (omega arith) (sym (found p .1) ∙ e) in
+    let f = s .args .g .format .profile in
+    let same = address-one (s .args .g .«record_base») (recordSize f) (index p) j (omega (arith, record-least f)) (sym (found p .1) ∙ e) in
     i .if2 .taken (i .before .before .buffer .ensures ∙ ap (addressWord (s .args .g .format) r) same ∙ w ∙ sym (i .before .buffer-address .ensures))) in
     c .tell3 .ensures ∙ ap toldOf (sym other)
 
@@ -111,7 +113,8 @@ returns-3 c =
     let g = s .args .g in
     let other =
     verdict-other (judging s) (s .args .i) (one-names (f .before))
-    (λ j l w e. place-missed (g .«record_base») recordSize (g .count) _ (omega arith) (sym (f .find-named .ensures) ∙ c .before .enum-told .given .1) j l
+    (λ j l w e. place-missed (g .«record_base») (recordSize (g .format .profile)) (g .count) _ (omega (arith, record-least (g .format .profile)))
+    (sym (f .find-named .ensures) ∙ c .before .enum-told .given .1) j l
     (ap (λ (t : Tag). t .t0) (tag-read (f .before)) ∙ e)) in
     c .tell2 .ensures ∙ ap toldOf (sym other)
 

@@ -4,6 +4,7 @@ use borrow.Author.Needs.{needs}
 use Rattle.tags.specs.Tag.{patternOf}
 use Rattle.tags.specs.declared.tag.Pattern.the-variants as pattern
 use Rattle.tags.proofs.Tags.{is-free, is-allocated, is-neither}
+use Rattle.chunks.specs.Judge.{codedVerdict, allocatedVerdict}
 use Rattle.verdicts.specs.Judge.{chainedVerdict}
 use Rattle.verdicts.proofs.judge.judge_chained.Statement.{statement}
 use Rattle.verdicts.proofs.judge.judge_chained.Tie as tie
@@ -33,8 +34,10 @@ unfolding chainedVerdict
 returns-5 c = let m = c .before in rw (allocated (m .before .before), m .before .if5 .left, m .if6 .taken) (c .tell4 .ensures)
 
 returns-6 : tie.Need-returns-6
-unfolding chainedVerdict
-returns-6 c = let m = c .before in rw (allocated (m .before .before), m .before .if5 .left, m .if6 .left) (c .judge-allocated .ensures)
+unfolding chainedVerdict allocatedVerdict
+returns-6 c =
+    let m = c .before .before in
+    rw (allocated (m .before .before), m .before .if5 .left, m .if6 .left) (c .judge-header .ensures (codedVerdict _ _) (c .before .judge-coded .ensures))
 
 returns-7 : tie.Need-returns-7
 unfolding chainedVerdict
@@ -49,4 +52,4 @@ judge-chained-spec =
     (λ c. rw (free (c .before .before), c .before .if2 .taken) (c .tell .ensures))
     (λ c κs. search needs) returns-2 (λ c κs. search needs) returns-3 (λ c κs. search needs) (λ c κs. search needs)
     (λ c. rw (allocated (c .before .before), c .before .if5 .taken) (c .tell3 .ensures))
-    (λ c κs. search needs) returns-5 (λ c κs. search needs) returns-6 (λ c κs. search needs) returns-7)
+    (λ c κs. search needs) returns-5 (λ c κs. search needs) (λ c κs. search needs) returns-6 (λ c κs. search needs) returns-7)

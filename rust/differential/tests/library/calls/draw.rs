@@ -1,10 +1,10 @@
 //! Calls that an image accepts, and ones that it refuses for every reason there is.
 
 use combgallop::Grant;
-use differential::{move_areas, word_bytes, Image, Sequence};
+use differential::{move_areas, other_profile, word_bytes, Form, Image, Sequence};
 use reference::Order;
 
-use super::call::{Call, Numbers};
+use super::call::{of_library, Call, Numbers};
 
 const REDZONE: u32 = 0xfeed_face;
 
@@ -24,27 +24,32 @@ pub fn some_call(image: &Image, eagerness: usize, sequence: &mut Sequence) -> Ca
 
 fn some_allocate(image: &Image, sequence: &mut Sequence) -> Call {
     Call::Allocate {
-        grant: some_grant(image.shape.size as u32, sequence),
+        grant: some_grant(image, sequence),
         uptime: some_uptime(image, sequence),
         thread: sequence.word(),
     }
 }
 
-/// Whole, a lawful size, and now and then an unlawful one: 0, one too large, and sizes
-/// that would be lawful if fewer of their bits were read.
-fn some_grant(size: u32, sequence: &mut Sequence) -> Grant {
-    let lawful = sequence.between(1, size as usize) as u32;
+/// Whole, a lawful size, and now and then an unlawful one: 0, one too large, sizes that
+/// would be lawful under the other profile or if fewer of their bits were read, and ones
+/// whose coded size would pass 2^32.
+fn some_grant(image: &Image, sequence: &mut Sequence) -> Grant {
+    let size = image.shape.size as u32;
+    let most = image.most_request() as u32;
+    let lawful = sequence.between(1, most.max(1) as usize) as u32;
     match sequence.below(24) {
         0..=5 => Grant::Whole,
         6 | 7 => Grant::Sized(1),
-        8 | 9 => Grant::Sized(size - 1),
-        10..=12 => Grant::Sized(size),
+        8 | 9 => Grant::Sized(most.saturating_sub(1)),
+        10..=12 => Grant::Sized(most),
         13 => Grant::Sized(0),
-        14 => Grant::Sized(size + 1),
+        14 => Grant::Sized(most + 1),
         15 => Grant::Sized(sequence.pick(&[
             lawful + 0x1_0000,
             lawful + 0x8000_0000,
             u32::MAX,
+            lawful.wrapping_sub(8),
+            size,
             size + 8,
         ])),
         16 => Grant::Sized(sequence.word()),
@@ -59,14 +64,15 @@ fn some_uptime(image: &Image, sequence: &mut Sequence) -> u32 {
 
 fn some_free(image: &Image, sequence: &mut Sequence) -> Call {
     let buffer = sequence.below(image.shape.count);
-    let granted = granted(image, buffer);
+    let granted = of_library(image.told_grant(buffer));
     let grant = match (sequence.below(16), granted) {
-        (0, _) => some_grant(image.shape.size as u32, sequence),
-        (1, Grant::Whole) => Grant::Sized(image.shape.size as u32),
+        (0, _) => some_grant(image, sequence),
+        (1, Grant::Whole) => Grant::Sized(image.most_request() as u32),
         (1, Grant::Sized(_)) => Grant::Whole,
         (2, Grant::Sized(size)) => Grant::Sized(size.wrapping_sub(1)),
         (3, Grant::Sized(size)) => Grant::Sized(size.wrapping_add(1)),
         (4, Grant::Sized(size)) => Grant::Sized(size.wrapping_add(0x1_0000)),
+        (5, Grant::Sized(size)) => Grant::Sized(size.wrapping_add(8)),
         _ => granted,
     };
     Call::Free {
@@ -74,14 +80,6 @@ fn some_free(image: &Image, sequence: &mut Sequence) -> Call {
         grant,
         uptime: some_uptime(image, sequence),
         thread: sequence.word(),
-    }
-}
-
-/// The grant that a buffer's second redzone word tells, as well as it can be told.
-fn granted(image: &Image, buffer: usize) -> Grant {
-    match image.heap_word(image.r1(buffer)) {
-        REDZONE => Grant::Whole,
-        code => Grant::Sized(code / 251),
     }
 }
 
@@ -107,7 +105,7 @@ fn near_buffer(image: &Image, buffer: usize, sequence: &mut Sequence) -> u32 {
         address.wrapping_add(0x8000_0000),
         shape.heap_base.wrapping_sub(step),
         shape.heap_base.wrapping_add(shape.heap_length() as u32),
-        shape.record_address(buffer),
+        image.record_address(buffer),
         0,
         8,
         0u32.wrapping_sub(step),
@@ -119,11 +117,7 @@ fn near_buffer(image: &Image, buffer: usize, sequence: &mut Sequence) -> u32 {
 
 fn some_store(image: &Image, sequence: &mut Sequence) -> Call {
     let buffer = sequence.below(image.shape.count);
-    let size = image.shape.size;
-    let client = match granted(image, buffer) {
-        Grant::Whole => size,
-        Grant::Sized(granted) => size.min(granted as usize),
-    };
+    let client = image.client(buffer).len();
     let (offset, length) = some_run(client, image.shape.chunk_size(), sequence);
     Call::Store {
         address: near_buffer(image, buffer, sequence),
@@ -169,10 +163,14 @@ pub fn some_order(sequence: &mut Sequence) -> Order {
 }
 
 /// A lay out for areas of an image's lengths, in either order: lawful, with other bases,
-/// or with one number that is not.
+/// with one number that is not, or under the other profile.
 pub fn some_lay_out(image: &Image, sequence: &mut Sequence) -> Call {
-    let moved = move_areas(image.shape, sequence);
-    let mut numbers = Numbers::new(some_order(sequence), moved);
+    let mut profile = image.profile();
+    if sequence.once_in(8) {
+        profile = other_profile(profile);
+    }
+    let form = Form::laid_out(profile, some_order(sequence));
+    let mut numbers = Numbers::new(form, move_areas(profile, image.shape, sequence));
     numbers.cache = sequence.word();
     if !sequence.once_in(2) {
         spoil(&mut numbers, sequence);

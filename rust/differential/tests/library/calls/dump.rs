@@ -2,17 +2,16 @@
 
 use combgallop::Grant;
 use differential::neighbours::each_small_size_code;
-use differential::samples::dump;
+use differential::samples::{dump, dump_request};
 use differential::{Form, Image, Sequence, FORMS};
 
-use super::answers;
-use super::call::Call;
+use super::call::{of_library, of_reference, Call};
 use super::twin::Twin;
+use super::{answers, header_answers};
 use crate::counts::{Counts, Met};
 
 const SEED: u64 = 0x95c1_7b3e;
 
-const REDZONE: u32 = 0xfeed_face;
 const SIZE: u32 = 24;
 
 /// Buffer 1, the one that is allocated.
@@ -22,14 +21,13 @@ const STEP: u32 = 40;
 /// The dump with its allocated buffer granted in some way.
 fn dump_granted(form: Form, grant: Grant) -> Image {
     let mut image = dump(form);
-    image.put_heap_word(image.r0(1), REDZONE);
-    image.put_heap_word(image.r1(1), REDZONE);
-    if let Grant::Sized(size) = grant {
-        let guard = image.buffer(1) + size as usize;
-        image.heap[guard] = 0xbb;
-        image.put_heap_word(image.r1(1), 251 * size + 1);
-    }
+    image.put_grant(1, of_reference(grant));
     image
+}
+
+/// The grant whose guard stands on R0.
+fn largest(form: Form) -> Grant {
+    Grant::Sized(dump(form).most_request() as u32)
 }
 
 /// Whole, and every size there is and a few that there are not.
@@ -69,7 +67,7 @@ fn show(address: u32) -> Call {
 
 /// A few calls, one after the other. The allocates take every buffer in turn, the freed
 /// one first, and then there is none.
-fn some_of_each(grant: Grant) -> [Call; 9] {
+fn some_of_each(grant: Grant, largest: Grant) -> [Call; 9] {
     [
         show(BUFFER - STEP),
         show(BUFFER),
@@ -78,7 +76,7 @@ fn some_of_each(grant: Grant) -> [Call; 9] {
         free(grant),
         allocate(Grant::Sized(9)),
         allocate(Grant::Whole),
-        allocate(Grant::Sized(SIZE)),
+        allocate(largest),
         allocate(Grant::Sized(1)),
     ]
 }
@@ -113,7 +111,8 @@ fn calls_on_neighbours_of_the_dump() {
     let mut sequence = Sequence::new(SEED);
     let mut counts = Counts::default();
     for form in FORMS {
-        for grant in [Grant::Sized(20), Grant::Whole, Grant::Sized(SIZE)] {
+        let granted = Grant::Sized(dump_request(form));
+        for grant in [granted, Grant::Whole, largest(form)] {
             run_on_neighbours(form, grant, &mut counts, &mut sequence);
         }
     }
@@ -122,12 +121,13 @@ fn calls_on_neighbours_of_the_dump() {
         .into_iter()
         .filter(|met| !NOT_NEAR.contains(met))
         .collect();
-    counts.finish("calls, neighbours of the dump", SEED, &wanted);
+    let title = "calls, neighbours of the dump";
+    counts.finish_with(title, SEED, &wanted, &header_answers());
 }
 
 fn run_on_neighbours(form: Form, grant: Grant, counts: &mut Counts, sequence: &mut Sequence) {
     let mut image = dump_granted(form, grant);
-    let calls = some_of_each(grant);
+    let calls = some_of_each(grant, largest(form));
     let lengths = [image.sheet.len(), image.heap.len(), image.records.len()];
     for (area, length) in lengths.into_iter().enumerate() {
         for at in 0..length {
@@ -150,7 +150,7 @@ fn every_pair_of_grants() {
     for image in FORMS.map(dump) {
         for granted in every_grant() {
             for freed in every_grant() {
-                let as_granted = Grant::Sized(20);
+                let as_granted = Grant::Sized(dump_request(image.form));
                 let calls = [
                     free(as_granted),
                     allocate(granted),
@@ -176,11 +176,8 @@ fn every_small_store() {
     let mut sequence = Sequence::new(SEED);
     let mut counts = Counts::default();
     for form in FORMS {
-        for size in 0..=SIZE {
-            let grant = match size {
-                0 => Grant::Whole,
-                size => Grant::Sized(size),
-            };
+        let sizes = (1..=dump(form).most_request() as u32).map(Grant::Sized);
+        for grant in sizes.chain([Grant::Whole]) {
             run_small_stores(form, grant, &mut counts, &mut sequence);
         }
     }
@@ -203,9 +200,10 @@ fn run_small_stores(form: Form, grant: Grant, counts: &mut Counts, sequence: &mu
 fn calls_on_every_small_size_code() {
     let mut sequence = Sequence::new(SEED);
     let mut counts = Counts::default();
-    each_small_size_code(|image| {
+    each_small_size_code(&FORMS, |image| {
         let [r0, r1] = [image.r0(1), image.r1(1)].map(|at| image.heap_word(at));
-        let calls = [show(BUFFER), store(0, 1), free(Grant::Sized(r1 / 251))];
+        let granted = of_library(image.told_grant(1));
+        let calls = [show(BUFFER), store(0, 1), free(granted)];
         let fill = image.heap[image.buffer(1)];
         let origin = format!("dump, R0 {r0:#x}, R1 {r1:#x}, {fill:#x} before them");
         run_all(image, &calls, &origin, &mut counts, &mut sequence);
@@ -215,5 +213,6 @@ fn calls_on_every_small_size_code() {
         Met::Refused("free", 7, 27),
         Met::Refused("free", 7, 28),
     ];
-    counts.finish("calls, every small size code", SEED, &wanted);
+    let title = "calls, every small size code";
+    counts.finish_with(title, SEED, &wanted, &header_answers());
 }

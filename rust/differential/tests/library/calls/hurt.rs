@@ -1,11 +1,11 @@
 //! Calls on hurt images, and lists with damage between the calls.
 
 use differential::hurt::{HEAD_HURTS, HURTS};
-use differential::{Case, Sequence, LONG_FORMS};
+use differential::{Case, Sequence, LONG_FORMS, PROFILES};
 
-use super::answers;
 use super::draw::{some_call, some_lay_out};
 use super::twin::Twin;
+use super::{answers, header_answers};
 use crate::counts::{Counts, Met};
 
 const CASES: u64 = 40_000;
@@ -44,15 +44,17 @@ fn run(case: &Case, counts: &mut Counts, sequence: &mut Sequence) {
 #[test]
 fn calls_on_hurt_images() {
     let mut counts = Counts::default();
-    for number in 0..CASES {
-        let (case, mut sequence) = Case::new(SEED, number);
-        run(&case, &mut counts, &mut sequence);
+    for profile in PROFILES {
+        for number in 0..CASES {
+            let (case, mut sequence) = Case::new(profile, SEED, number);
+            run(&case, &mut counts, &mut sequence);
+        }
     }
     let hurts = HURTS.iter().chain(&HEAD_HURTS);
     let hurts: Vec<Met> = hurts.map(|&(name, _)| Met::Hurt(name)).collect();
     let calls = ["allocate", "free", "store", "show"];
     let wanted = [calls.map(answers).concat(), hurts].concat();
     let title = "calls, hurt images";
-    counts.finish(title, SEED, &wanted);
+    counts.finish_with(title, SEED, &wanted, &header_answers());
     counts.want(&LONG_FORMS, title, &answers("lay out"));
 }

@@ -1,7 +1,9 @@
 //! Lay out, with arguments at and past every limit and areas of any length.
 
-use differential::{some_shape, Form, Image, Sequence, Shape, LONG_FORMS};
-use reference::{Order, SHEET_LENGTH};
+use differential::{
+    other_profile, record_size, some_shape, Form, Image, Sequence, Shape, LONG_FORMS, PROFILES,
+};
+use reference::SHEET_LENGTH;
 
 use super::answers;
 use super::call::{Call, Numbers};
@@ -9,7 +11,7 @@ use super::draw::{any_bytes, some_order};
 use super::twin::Twin;
 use crate::counts::{Counts, Met, EXTREMES};
 
-const CASES: u64 = 30_000;
+const CASES: u64 = 60_000;
 const SEED: u64 = 0x4e02_9d5f;
 
 /// The longest areas that are lent: more would only take time.
@@ -25,12 +27,12 @@ struct Draft {
 }
 
 impl Draft {
-    fn lawful(order: Order, shape: Shape) -> Draft {
+    fn lawful(form: Form, shape: Shape) -> Draft {
         Draft {
-            numbers: Numbers::new(order, shape),
+            numbers: Numbers::new(form, shape),
             sheet_length: SHEET_LENGTH,
             heap_length: shape.heap_length(),
-            record_length: shape.record_length(),
+            record_length: shape.count * record_size(form.profile()),
         }
     }
 
@@ -47,7 +49,7 @@ impl Draft {
             lent as usize
         };
         self.heap_length = need(u64::from(size) + 16);
-        self.record_length = need(96);
+        self.record_length = need(record_size(self.numbers.profile) as u64);
         self.numbers.size = size;
         self.numbers.count = count;
     }
@@ -56,10 +58,14 @@ impl Draft {
 /// One way to make a draft unlawful, or to bring it to the end of what is lawful.
 type Change = (&'static str, fn(&mut Draft, &mut Sequence));
 
-const CHANGES: [Change; 11] = [
+const CHANGES: [Change; 12] = [
     ("sheet length", change_sheet_length),
     ("heap length", change_heap_length),
     ("record length", change_record_length),
+    (
+        "record length of the other profile",
+        take_other_record_length,
+    ),
     ("size", change_size),
     ("count", change_count),
     ("heap area at its limit", reach_heap_limit),
@@ -86,6 +92,13 @@ fn change_heap_length(draft: &mut Draft, sequence: &mut Sequence) {
 
 fn change_record_length(draft: &mut Draft, sequence: &mut Sequence) {
     draft.record_length = other_length(draft.record_length.max(1), sequence);
+}
+
+/// As many records of the other profile.
+fn take_other_record_length(draft: &mut Draft, _: &mut Sequence) {
+    let profile = draft.numbers.profile;
+    let count = draft.record_length / record_size(profile);
+    draft.record_length = count * record_size(other_profile(profile));
 }
 
 /// Sizes at the limits and past them, ones that are lawful in their low 16 bits, and
@@ -176,11 +189,17 @@ fn change_base(draft: &mut Draft, sequence: &mut Sequence) {
     *base = sequence.pick(&[0, 1, 4, 8, unaligned, unaligned]);
 }
 
+/// The length of an area, up to the next base behind it: an odd count of userland records
+/// ends between two.
+fn aligned(length: usize) -> u32 {
+    length.next_multiple_of(8) as u32
+}
+
 /// The highest base there is for an area, and the next higher ones.
 fn raise_base(draft: &mut Draft, sequence: &mut Sequence) {
     let lengths = [draft.heap_length, draft.record_length];
     let base = some_base(draft, sequence);
-    let highest = (sequence.pick(&lengths) as u32).wrapping_neg();
+    let highest = aligned(sequence.pick(&lengths)).wrapping_neg();
     *base = sequence.pick(&[highest, highest, highest.wrapping_add(8), 0xffff_fff8]);
 }
 
@@ -192,8 +211,8 @@ fn share_addresses(draft: &mut Draft, sequence: &mut Sequence) {
         record_base,
         ..
     } = draft.numbers;
-    let heap_length = draft.heap_length as u32;
-    let record_length = draft.record_length as u32;
+    let heap_length = aligned(draft.heap_length);
+    let record_length = aligned(draft.record_length);
     if sequence.once_in(2) {
         draft.numbers.heap_base = sequence.pick(&[
             record_base,
@@ -215,6 +234,7 @@ fn share_addresses(draft: &mut Draft, sequence: &mut Sequence) {
 
 fn take_any(draft: &mut Draft, sequence: &mut Sequence) {
     draft.numbers = Numbers {
+        profile: draft.numbers.profile,
         order: draft.numbers.order,
         cache: sequence.word(),
         heap_base: sequence.word(),
@@ -226,12 +246,13 @@ fn take_any(draft: &mut Draft, sequence: &mut Sequence) {
 
 /// Changes a lawful draft in no way, one way or two.
 fn some_draft(counts: &mut Counts, sequence: &mut Sequence) -> Draft {
-    let order = some_order(sequence);
-    let mut draft = Draft::lawful(order, some_shape(sequence));
+    let profile = sequence.pick(&PROFILES);
+    let form = Form::laid_out(profile, some_order(sequence));
+    let mut draft = Draft::lawful(form, some_shape(profile, sequence));
     for _ in 0..sequence.pick(&[0, 1, 1, 1, 2]) {
         let (name, way) = sequence.pick(&CHANGES);
         way(&mut draft, sequence);
-        counts.note(Form::laid_out(order), Met::Drawn(name));
+        counts.note(form, Met::Drawn(name));
     }
     draft
 }
@@ -239,7 +260,7 @@ fn some_draft(counts: &mut Counts, sequence: &mut Sequence) -> Draft {
 /// Areas of a draft's lengths, full of anything.
 fn areas(draft: &Draft, sequence: &mut Sequence) -> Image {
     Image {
-        form: Form::laid_out(draft.numbers.order),
+        form: draft.numbers.form(),
         shape: draft.numbers.into(),
         times: [0; 5],
         sheet: any_bytes(draft.sheet_length, sequence),

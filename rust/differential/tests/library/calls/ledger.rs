@@ -4,12 +4,13 @@
 use std::collections::BTreeMap;
 use std::fmt::Display;
 
-use combgallop::{Finding, Grant, Refusal, Verdict};
-use differential::word_bytes;
+use combgallop::{Finding, Grant, Profile, Refusal, Verdict};
+use differential::{header_length, word_bytes};
 use reference::Ending;
 
 use super::call::{Call, Numbers};
 use super::twin::Twin;
+use crate::expected::expected_profile;
 
 /// What a granted buffer's client has.
 struct Out {
@@ -35,6 +36,11 @@ impl Ledger {
             allocates: 0,
             frees: 0,
         }
+    }
+
+    /// The profile laid out under, by which everything is found and shown.
+    fn profile(&self) -> Profile {
+        expected_profile(self.numbers.profile)
     }
 
     /// Whether every buffer is out.
@@ -66,7 +72,10 @@ impl Ledger {
     fn is_lawful(&self, grant: Grant) -> bool {
         match grant {
             Grant::Whole => true,
-            Grant::Sized(size) => (1..=self.numbers.size).contains(&size),
+            Grant::Sized(size) => {
+                let header_length = header_length(self.numbers.profile) as u32;
+                (1..=self.numbers.size - header_length).contains(&size)
+            }
         }
     }
 
@@ -194,7 +203,7 @@ impl Ledger {
             })
             .collect();
         let mut rows = vec![0; 3 * expected.len()];
-        let found = combgallop::inspect(sheet, heap, records, &mut rows);
+        let found = combgallop::inspect(self.profile(), sheet, heap, records, &mut rows);
         let found = found.unwrap_or_else(|refusal| panic!("{refusal}: {}", twin.story));
         let found: Vec<Finding> = found.collect();
         assert_eq!(found, expected, "findings: {}", twin.story);
@@ -218,7 +227,7 @@ impl Ledger {
         let met = self.numbers.count as usize + self.frees - self.allocates;
         expected += &format!("chain {met} end\nfaults 0\n");
         let mut output = vec![0; expected.len()];
-        let answer = combgallop::report(sheet, heap, records, &[], &mut output);
+        let answer = combgallop::report(self.profile(), sheet, heap, records, &[], &mut output);
         assert_eq!(answer, Ok(expected.len()), "report: {}", twin.story);
         let text = String::from_utf8_lossy(&output);
         assert_eq!(text, expected, "{}", twin.story);
@@ -228,7 +237,7 @@ impl Ledger {
     fn check_chain(&self, twin: &Twin) {
         let lent = &twin.lent;
         let (sheet, heap, records) = (lent.sheet.part(), lent.heap.part(), lent.records.part());
-        let chain = reference::chain(sheet, heap, records).expect("a chain");
+        let chain = reference::chain(self.numbers.profile, sheet, heap, records).expect("a chain");
         assert_eq!(chain.ending, Ending::End, "{}", twin.story);
         let mut met = chain.met;
         met.sort();
@@ -244,7 +253,7 @@ impl Ledger {
         let lent = &twin.lent;
         let (sheet, heap, records) = (lent.sheet.part(), lent.heap.part(), lent.records.part());
         for address in self.addresses() {
-            let shown = combgallop::show(sheet, heap, records, address);
+            let shown = combgallop::show(self.profile(), sheet, heap, records, address);
             let expected = match self.out.get(&address) {
                 Some(out) => Ok(&out.bytes[..]),
                 None => Err(Refusal::NotAllocated),

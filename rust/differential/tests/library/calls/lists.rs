@@ -2,8 +2,8 @@
 
 use std::fmt::{Display, Formatter, Result as Written};
 
-use differential::{some_shape, Form, Image, Sequence, Shape, LONG_FORMS};
-use reference::SHEET_LENGTH;
+use differential::{record_size, some_shape, Form, Image, Sequence, Shape, LONG_FORMS, PROFILES};
+use reference::{Order, Profile, SHEET_LENGTH};
 
 use super::call::{Call, Numbers};
 use super::draw::{any_bytes, some_call, some_lay_out, some_order};
@@ -64,12 +64,12 @@ impl Display for List {
 fn any_areas(numbers: Numbers, sequence: &mut Sequence) -> Image {
     let shape = Shape::from(numbers);
     Image {
-        form: Form::laid_out(numbers.order),
+        form: numbers.form(),
         shape,
         times: [sequence.word(); 5],
         sheet: any_bytes(SHEET_LENGTH, sequence),
         heap: any_bytes(shape.heap_length(), sequence),
-        records: any_bytes(shape.record_length(), sequence),
+        records: any_bytes(shape.count * record_size(numbers.profile), sequence),
         log: Vec::new(),
     }
 }
@@ -86,16 +86,17 @@ fn some_length(shape: Shape, sequence: &mut Sequence) -> usize {
 /// Runs one list. The wish to allocate changes within it, so that a heap is filled and
 /// emptied; now and then it is laid out again. Some high-first heaps are used through the
 /// short form of their sheet.
-fn run(number: u64, counts: &mut Counts) {
+fn run(profile: Profile, number: u64, counts: &mut Counts) {
     let mut sequence = Sequence::new(Sequence::new(SEED).number() ^ number);
-    let shape = some_shape(&mut sequence);
-    let numbers = Numbers::new(some_order(&mut sequence), shape);
+    let shape = some_shape(profile, &mut sequence);
+    let form = Form::laid_out(profile, some_order(&mut sequence));
+    let numbers = Numbers::new(form, shape);
     let list = List { number, numbers };
     let mut twin = Twin::new(any_areas(numbers, &mut sequence), &list, &mut sequence);
     let answer = twin.run(&Call::LayOut(numbers), counts, &mut sequence);
     assert_eq!(answer, Ok(0), "a lawful lay out: {}", twin.story);
     let mut ledger = Ledger::open(numbers);
-    if twin.image.form == Form::High && sequence.once_in(2) {
+    if numbers.order == Order::HighFirst && sequence.once_in(2) {
         twin.shorten(&mut sequence);
     }
 
@@ -134,8 +135,10 @@ fn note_list(twin: &Twin, ledger: &Ledger, length: usize, counts: &mut Counts) {
 #[test]
 fn every_list_is_as_its_ledger() {
     let mut counts = Counts::default();
-    for number in 0..LISTS {
-        run(number, &mut counts);
+    for profile in PROFILES {
+        for number in 0..LISTS {
+            run(profile, number, &mut counts);
+        }
     }
     let wanted = [&WANTED[..], &LENGTHS, &EXTREMES].concat();
     let title = "calls, lists on fresh heaps";

@@ -13,6 +13,7 @@ mod twin;
 use crate::counts::Met;
 
 pub use call::{Call, Numbers};
+pub use draw::some_call;
 pub use twin::Twin;
 
 /// The refusals that every call can give, by the rules, with their details.
@@ -33,7 +34,7 @@ const TAKING: [(u8, u8); 8] = [
 /// What free, store and show can give besides.
 const HOLDING: [(u8, u8); 5] = [(4, 0), (7, 21), (8, 0), (7, 27), (7, 28)];
 
-/// All that a call can answer, by the rules.
+/// All that a call can answer, by the rules of both profiles.
 fn answers(call: &'static str) -> Vec<Met> {
     let own: &[&[(u8, u8)]] = match call {
         "lay out" => &[],
@@ -46,4 +47,10 @@ fn answers(call: &'static str) -> Vec<Met> {
     let refused = OPENING.iter().chain(own.iter().copied().flatten());
     let refused = refused.map(|&(number, detail)| Met::Refused(call, number, detail));
     [Met::Accepted(call)].into_iter().chain(refused).collect()
+}
+
+/// What the calls on a granted buffer can answer besides under the userland profile.
+fn header_answers() -> Vec<Met> {
+    let calls = ["free", "store", "show"];
+    calls.map(|call| Met::Refused(call, 7, 30)).to_vec()
 }

@@ -2,14 +2,14 @@
 
 use std::fmt::{Display, Formatter, Result as Written};
 
-use combgallop::Refusal;
+use combgallop::{Answer, Refusal};
 use differential::hurt::Hurt;
 use differential::{Form, Image, Sequence};
-use reference::SHORT_SHEET_LENGTH;
+use reference::{Order, SHORT_SHEET_LENGTH};
 
-use super::call::Call;
+use super::call::{Accepted, Call};
 use crate::counts::{Counts, Met};
-use crate::expected::{expected_answer, expected_refusal};
+use crate::expected::{expected_answer, expected_profile, expected_refusal};
 use crate::lent::{Guarded, Lent};
 
 enum Step {
@@ -67,9 +67,9 @@ impl<'a> Twin<'a> {
 
     /// Cuts the sheet of a high-first image to the short form, which means the same.
     pub fn shorten(&mut self, sequence: &mut Sequence) {
-        assert_eq!(self.image.form, Form::High);
+        assert_eq!(self.image.order(), Order::HighFirst);
         self.image.sheet.truncate(SHORT_SHEET_LENGTH);
-        self.image.form = Form::Short;
+        self.image.form = Form::short(self.image.profile());
         self.lent = Lent::new(&self.image, sequence);
         self.story.steps.push(Step::Shorten);
     }
@@ -83,16 +83,18 @@ impl<'a> Twin<'a> {
         sequence: &mut Sequence,
     ) -> Result<u32, Refusal> {
         self.story.steps.push(Step::Call(call.clone()));
+        let profile = call.profile(&self.image);
         let expected = call.by_reference(&mut self.image);
         let bytes = Guarded::new(call.bytes(), sequence);
         let outcome = if sequence.once_in(4) {
-            call.outcome(&mut self.lent, bytes.part())
+            call.outcome(profile, &mut self.lent, bytes.part())
         } else {
-            let answer = call.answer(&mut self.lent, bytes.part());
-            let expected = expected_answer(expected);
+            let answer = call.answer(profile, &mut self.lent, bytes.part());
+            let expected = expected_bits(expected);
             assert_eq!(answer, expected, "answer to the last of {}", self.story);
             answer.value()
         };
+        let expected = expected.map(|accepted| accepted.value);
         let expected = expected.map_err(expected_refusal);
         assert_eq!(outcome, expected, "outcome of the last of {}", self.story);
         assert!(bytes.holds(call.bytes()), "bytes differ: {}", self.story);
@@ -100,7 +102,7 @@ impl<'a> Twin<'a> {
         match *call {
             Call::LayOut(numbers) if outcome.is_ok() => {
                 self.image.shape = numbers.into();
-                self.image.form = Form::laid_out(numbers.order);
+                self.image.form = numbers.form();
             }
             Call::Show { address } => self.compare_parts(address),
             _ => {}
@@ -113,7 +115,7 @@ impl<'a> Twin<'a> {
     /// the form of the sheet.
     fn note(&self, call: &Call, outcome: Result<u32, Refusal>, counts: &mut Counts) {
         let form = match call {
-            Call::LayOut(numbers) => Form::laid_out(numbers.order),
+            Call::LayOut(numbers) => numbers.form(),
             _ => self.image.read_form(),
         };
         let met = match outcome {
@@ -131,16 +133,24 @@ impl<'a> Twin<'a> {
             records,
             ..
         } = &self.image;
-        let expected = reference::show(sheet, heap, records, address);
-        let expected = expected.map(|part| place(heap, part));
+        let profile = self.image.profile();
+        let expected = reference::show(profile, sheet, heap, records, address);
+        let expected = expected.map(|shown| place(heap, shown.bytes));
         let expected = expected.map_err(expected_refusal);
         let (sheet, heap, records) = (&self.lent.sheet, &self.lent.heap, &self.lent.records);
-        let heap = heap.part();
-        let shown = combgallop::show(sheet.part(), heap, records.part(), address);
+        let (profile, heap) = (expected_profile(profile), heap.part());
+        let shown = combgallop::show(profile, sheet.part(), heap, records.part(), address);
         let shown = shown.map(|part| place(heap, part));
         assert_eq!(shown, expected, "part shown: {}", self.story);
         self.lent.assert_holds(&self.image, &self.story);
     }
+}
+
+/// All 64 bits of a call's answer.
+fn expected_bits(answer: Result<Accepted, reference::Refusal>) -> Answer {
+    let start = answer.map_or(0, |accepted| accepted.start);
+    let Answer(bits) = expected_answer(answer.map(|accepted| accepted.value));
+    Answer(bits | u64::from(start) << 16)
 }
 
 /// Where a part of an area starts, and its length.
