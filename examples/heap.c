@@ -29,7 +29,12 @@ static int use_kernel(void)
                    heap, sizeof heap, records, sizeof records))
         return 1;
     uint64_t answer = cg_allocate(false, sheet, sizeof sheet, heap, sizeof heap, records,
-                                  sizeof records, false, 20, uptime, thread);
+                                  sizeof records, false, 20, uptime, 0);
+    if (cg_refusal(answer) != CG_NO_THREAD)
+        return 1;
+    printf("thread 0 is nobody: refusal %u\n", (unsigned)cg_refusal(answer));
+    answer = cg_allocate(false, sheet, sizeof sheet, heap, sizeof heap, records, sizeof records,
+                         false, 20, uptime, thread);
     if (cg_refusal(answer))
         return 1;
     uint32_t buffer = cg_value(answer);

@@ -38,6 +38,19 @@ fn use_kernel() -> Result<(), Refusal> {
         &mut records,
     )?;
     let grant = Grant::Sized(20);
+    let refused = allocate(
+        profile,
+        &mut sheet,
+        &mut heap,
+        &mut records,
+        grant,
+        UPTIME,
+        0,
+    );
+    if refused != Err(Refusal::NoThread) {
+        return refused.map(|_| ());
+    }
+    println!("thread 0 is nobody: refusal {}", Refusal::NoThread.number());
     let buffer = allocate(
         profile,
         &mut sheet,

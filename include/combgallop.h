@@ -121,6 +121,7 @@ enum {
     CG_PAST_CLIENT = 10,   /* offset plus length passes the client's bytes */
     CG_SHORT_OUTPUT = 11,  /* what is lent to be written to is too short */
     CG_WIDE_STAMP = 12,    /* the record's stamp needs more than 32 bits */
+    CG_NO_THREAD = 13,     /* the thread is 0, which is nobody's */
 
     CG_BROKEN_HEAD = 29 /* no refusal but a detail of 7: the chain's head is no record */
 };
@@ -249,14 +250,15 @@ uint64_t cg_lay_out(bool userland, bool low_first,
 /*
  * Grants the buffer of the chain's first record: all of it when `whole` is true, and
  * `size` is not read then; else its first `size` bytes, or under the userland profile the
- * first `size` bytes behind its header. Stamps the record with uptime and thread.
+ * first `size` bytes behind its header. Stamps the record with uptime and thread. A thread
+ * of 0 is nobody: it is what a record has that no call has stamped yet.
  *
  * Value: the buffer's address.
- * Refusals: 1, 2, 3; 6 when a size is asked for that is 0 or above the buffer size, or
- * under the userland profile above the buffer size less 8; 5 when the chain's head is 0;
- * 7 when the head is no record (detail 29), it names no buffer (20), the buffer's tag names
- * another record or has neither pattern (21) or the allocated one (24), or its fill (25) or
- * redzone (26) is hurt.
+ * Refusals: 1, 2, 3; 13 when thread is 0; 6 when a size is asked for that is 0 or above the
+ * buffer size, or under the userland profile above the buffer size less 8; 5 when the
+ * chain's head is 0; 7 when the head is no record (detail 29), it names no buffer (20), the
+ * buffer's tag names another record or has neither pattern (21) or the allocated one (24),
+ * or its fill (25) or redzone (26) is hurt.
  */
 uint64_t cg_allocate(bool userland,
                      uint8_t *sheet, size_t sheet_length,
@@ -270,11 +272,11 @@ uint64_t cg_allocate(bool userland,
  * stamped with uptime and thread.
  *
  * Value: 0.
- * Refusals: 1, 2, 3; 4 when no buffer starts at the address; 7 with detail 21 when the
- * buffer's tag names no record or one that names another buffer, or has neither pattern;
- * 8 when the buffer is free; 7 when its size code is none (27), its guard byte or redzone
- * is hurt (28), or under the userland profile its header is wrong (30); 9 when it was
- * granted otherwise.
+ * Refusals: 1, 2, 3; 13 when thread is 0; 4 when no buffer starts at the address; 7 with
+ * detail 21 when the buffer's tag names no record or one that names another buffer, or has
+ * neither pattern; 8 when the buffer is free; 7 when its size code is none (27), its guard
+ * byte or redzone is hurt (28), or under the userland profile its header is wrong (30);
+ * 9 when it was granted otherwise.
  */
 uint64_t cg_free(bool userland,
                  uint8_t *sheet, size_t sheet_length,

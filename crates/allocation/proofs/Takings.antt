@@ -17,7 +17,7 @@ use Rattle.area.specs.Record.{addressWord}
 use Rattle.area.specs.declared.place.Place.the-variants.{At}
 use Rattle.area.proofs.Places.{place-found}
 use Rattle.area.proofs.Placed.{by-place}
-use Rattle.sheet.specs.Areas.{Areas, byLengths, Image, opening, chunkIn, chunkAt}
+use Rattle.sheet.specs.Areas.{Areas, byLengths, Image, opening, isNobody, chunkIn, chunkAt}
 use Rattle.geometry.specs.Sheet.{bufferOf, recordOf}
 use Rattle.sheet.proofs.Opens.{opened-known, by-opened}
 use Rattle.places.specs.Spot.{spot}
@@ -43,13 +43,14 @@ taken-by a q pattern.Neither c p k = tt
 taken-by a q pattern.Allocated c p k = tt
 taken-by a q pattern.Free c p k = by-test (TakenIf a q) (isFoundFree (verdictNumber (freeVerdict (p .sheet .format) c))) (λ t. k) (λ t. tt)
 
-taken-if : (profile : Profile) (a : Areas) (q : Grant) → TakenIf a q (allocatePlan profile a q)
+taken-if : (profile : Profile) (a : Areas) (q : Grant) (thread : ℕ) → TakenIf a q (allocatePlan profile a q thread)
 unfolding allocatePlan takenOf takenHead takenChunk
-taken-if profile a q =
+taken-if profile a q thread =
     by-opened P (opening profile a)
     (λ g e.
     let o = opened-known profile (a .sheet) (length (a .heap)) (length (a .records)) g e in
-    by-test P (lawfulSize (g .format .profile) (g .size) q)
+    by-test P (isNobody thread) (λ n. tt)
+    (λ n. by-test P (lawfulSize (g .format .profile) (g .size) q)
     (λ l. by-test P (eqb (g .head) 0) (λ t. tt)
     (λ t. by-place P (recordOf g (g .head))
     (λ j f. by-place P (bufferOf g (addressWord (g .format) (a .records) j))
@@ -61,11 +62,11 @@ taken-if profile a q =
     (λ t. tt))
     tt)
     tt))
-    (λ t. tt))
+    (λ t. tt)))
     (λ why. tt)
   where
     P : AllocatePlan → Type 0
     P = TakenIf a q
 
-pub taken-known : (profile : Profile) (a : Areas) (q : Grant) (p : Spot) → allocatePlan profile a q ≡ Take p → byLengths Takes a q p
-taken-known profile a q p e = subst (TakenIf a q) e (taken-if profile a q)
+pub taken-known : (profile : Profile) (a : Areas) (q : Grant) (thread : ℕ) (p : Spot) → allocatePlan profile a q thread ≡ Take p → byLengths Takes a q p
+taken-known profile a q thread p e = subst (TakenIf a q) e (taken-if profile a q thread)

@@ -21,7 +21,7 @@ use Rattle.chunks.specs.declared.chunk.Grant.{Grant}
 use Rattle.area.specs.Place.{byPlace}
 use Rattle.area.specs.Record.{stamped, addressWord, nextWord}
 use Rattle.area.specs.declared.record.Stamp.{Stamp}
-use Rattle.sheet.specs.Areas.{Areas, areas, Result, result, refusedWith, Image, opening, byImage, chunkAt}
+use Rattle.sheet.specs.Areas.{Areas, areas, Result, result, refusedWith, Image, opening, byImage, bySomebody, chunkAt}
 use Rattle.sheet.specs.Fields.{withHead}
 use Rattle.geometry.specs.Sheet.{bufferOf, recordOf}
 use Rattle.places.specs.Spot.{spot, chunkStart, bufferStart, Within}
@@ -56,9 +56,9 @@ takenHead m =
 unfoldable pub takenOf : Image → Grant → AllocatePlan
 takenOf m q = cond (lawfulSize (m .sheet .format .profile) (m .sheet .size) q) (cond (eqb (m .sheet .head) 0) (Refused NoRoom) (takenHead m)) (Refused BadSize)
 
--- E5 (allocate: X6, X5, X7), after E3
-unfoldable pub allocatePlan : Profile → Areas → Grant → AllocatePlan
-allocatePlan profile a q = byImage (opening profile a) a (λ m. takenOf m q) Refused
+-- E5 (allocate: X6, X5, X7), after E3 with X13
+unfoldable pub allocatePlan : Profile → Areas → Grant → ℕ → AllocatePlan
+allocatePlan profile a q thread = byImage (opening profile a) a (λ m. bySomebody thread (takenOf m q) Refused) Refused
 
 -- K6 (what allocate writes): the granted chunk, the record's stamp and thread, the new head; the next word stays
 unfoldable pub grantedAreas : Areas → Grant → Stamp → Spot → Areas
@@ -74,7 +74,7 @@ allocateResult a q s (Refused why) = refusedWith (answer.Refused why) a
 
 -- K5, K6, E5 (allocate)
 unfoldable pub allocateOf : Profile → Areas → Grant → Stamp → Result Answer
-allocateOf profile a q s = allocateResult a q s (allocatePlan profile a q)
+allocateOf profile a q s = allocateResult a q s (allocatePlan profile a q (s .thread))
 
 -- what is known of a buffer that is taken, in areas of s, h and r bytes
 pub record Takes (s h r : ℕ) (q : Grant) (p : Spot) : Type 0 where

@@ -118,13 +118,25 @@ fn take(heap: &[u8], records: &[u8], g: Sheet, grant: Grant) -> AllocatePlan
 }
 
 // What an allocation will do. It only reads.
-fn plan(profile: Profile, sheet: &[u8], heap: &[u8], records: &[u8], grant: Grant) -> AllocatePlan
-    ensures { λ r. ⌜ r ≡ allocatePlan profile (before sheet heap records) grant ⌝ }
+fn plan(
+    profile: Profile,
+    sheet: &[u8],
+    heap: &[u8],
+    records: &[u8],
+    grant: Grant,
+    thread: u32,
+) -> AllocatePlan
+    ensures { λ r. ⌜ r ≡ allocatePlan profile (before sheet heap records) grant thread ⌝ }
 {
     let opened = opening::open(profile, sheet, heap.len(), records.len());
     match opened {
         Opened::Refused(why) => AllocatePlan::Refused(why),
-        Opened::Sheet(g) => take(heap, records, g, grant),
+        Opened::Sheet(g) => {
+            if thread == 0 {
+                return AllocatePlan::Refused(Refusal::NoThread);
+            }
+            take(heap, records, g, grant)
+        }
     }
 }
 
@@ -159,7 +171,7 @@ pub fn allocate(
     ensures { λ r. ⌜ result r (after sheet heap records)
         ≡ allocateOf profile (before sheet heap records) grant stamp ⌝ }
 {
-    let planned = plan(profile, sheet, heap, records, grant);
+    let planned = plan(profile, sheet, heap, records, grant, stamp.thread);
     match planned {
         AllocatePlan::Refused(why) => Answer::Refused(why),
         AllocatePlan::Take(p) => {

@@ -93,6 +93,14 @@ fn store(p: Profile, sheet: &SheetArea, heap: &mut HeapArea, records: &[u8]) {
     calls::show(p, sheet, heap, records, SECOND);
 }
 
+// Nobody allocates or frees, whether another thread could or not.
+fn refuse_nobody(p: Profile, sheet: &mut SheetArea, heap: &mut HeapArea, records: &mut [u8]) {
+    calls::allocate(p, sheet, heap, records, Grant::Sized(1), 260, 0);
+    calls::allocate(p, sheet, heap, records, Grant::Sized(0), 260, 0);
+    calls::free(p, sheet, heap, records, SECOND, Grant::Whole, 260, 0);
+    calls::free(p, sheet, heap, records, SECOND + 4, Grant::Whole, 260, 0);
+}
+
 // The last buffer is granted in its full size, and there is no room for one more.
 fn fill(p: Profile, sheet: &mut SheetArea, heap: &mut HeapArea, records: &mut [u8]) {
     calls::allocate(p, sheet, heap, records, full(p), 300, 7);
@@ -208,6 +216,7 @@ fn use_image(f: Format, sheet: &mut SheetArea, heap: &mut HeapArea, records: &mu
     begin(f, sheet, heap, records);
     grant(p, sheet, heap, records);
     store(p, sheet, heap, records);
+    refuse_nobody(p, sheet, heap, records);
     fill(p, sheet, heap, records);
     free(p, sheet, heap, records);
 }

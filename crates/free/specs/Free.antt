@@ -13,7 +13,7 @@ use Rattle.chunks.specs.declared.chunk.Grant.{Grant}
 use Rattle.chunks.specs.declared.chunk.Grant.the-variants.{Whole, Sized}
 use Rattle.area.specs.Record.{withNext, stamped}
 use Rattle.area.specs.declared.record.Stamp.{Stamp}
-use Rattle.sheet.specs.Areas.{Areas, areas, Result, result, refusedWith, opening, byImage}
+use Rattle.sheet.specs.Areas.{Areas, areas, Result, result, refusedWith, opening, byImage, bySomebody}
 use Rattle.sheet.specs.Fields.{withHead}
 use Rattle.places.specs.Spot.{chunkStart, recordStart}
 use Rattle.places.specs.declared.spot.Spot.{Spot}
@@ -33,9 +33,10 @@ abbrev pub freeTest : Grant → Held → Held
 freeTest q (held.Buffer p) = cond (sameGrant (p .grant) q) (held.Buffer p) (held.Refused OtherGrant)
 freeTest q (held.Refused why) = held.Refused why
 
--- E6 (free), after E3
-unfoldable pub freePlan : Profile → Areas → ℕ → Grant → Held
-freePlan profile a address q = byImage (opening profile a) a (λ m. freeTest q (heldOf m address)) held.Refused
+-- E6 (free), after E3 with X13
+unfoldable pub freePlan : Profile → Areas → ℕ → Grant → ℕ → Held
+freePlan profile a address q thread =
+    byImage (opening profile a) a (λ m. bySomebody thread (freeTest q (heldOf m address)) held.Refused) held.Refused
 
 -- K7 (what free writes): the free chunk, the record's next word, stamp and thread, the new head
 unfoldable pub freedAreas : Areas → Stamp → Spot → Areas
@@ -51,4 +52,4 @@ freeResult a s (held.Refused why) = refusedWith (Refused why) a
 
 -- K7, E6 (free)
 unfoldable pub freeOf : Profile → Areas → ℕ → Grant → Stamp → Result Answer
-freeOf profile a address q s = freeResult a s (freePlan profile a address q)
+freeOf profile a address q s = freeResult a s (freePlan profile a address q (s .thread))

@@ -65,13 +65,19 @@ fn plan(
     records: &[u8],
     address: u32,
     grant: Grant,
+    thread: u32,
 ) -> Held
-    ensures { λ r. ⌜ r ≡ freePlan profile (before sheet heap records) address grant ⌝ }
+    ensures { λ r. ⌜ r ≡ freePlan profile (before sheet heap records) address grant thread ⌝ }
 {
     let opened = opening::open(profile, sheet, heap.len(), records.len());
     match opened {
         Opened::Refused(why) => Held::Refused(why),
-        Opened::Sheet(g) => take_back(heap, records, g, address, grant),
+        Opened::Sheet(g) => {
+            if thread == 0 {
+                return Held::Refused(Refusal::NoThread);
+            }
+            take_back(heap, records, g, address, grant)
+        }
     }
 }
 
@@ -101,7 +107,7 @@ pub fn free(
     ensures { λ r. ⌜ result r (after sheet heap records)
         ≡ freeOf profile (before sheet heap records) address grant stamp ⌝ }
 {
-    let planned = plan(profile, sheet, heap, records, address, grant);
+    let planned = plan(profile, sheet, heap, records, address, grant, stamp.thread);
     match planned {
         Held::Refused(why) => Answer::Refused(why),
         Held::Buffer(p) => {

@@ -14,6 +14,7 @@ use Rattle.chunks.specs.Chunk.{grantSize, lawfulSize}
 use Rattle.chunks.specs.declared.chunk.Grant.{Grant}
 use Rattle.area.specs.Record.{nextWord}
 use Rattle.area.specs.declared.record.Stamp.{Stamp}
+use Rattle.sheet.specs.Areas.{isNobody}
 use Rattle.geometry.specs.Sheet.{bufferAddress, recordAddress, bufferOf}
 use Rattle.layout.specs.Layout.{laidAreas}
 use Rattle.free.specs.Free.{sameGrant}
@@ -22,10 +23,14 @@ use Rattle.geometry.specs.declared.sheet.Sheet.{Sheet}
 use Rattle.area.specs.declared.place.Place.{Place}
 use Rattle.area.specs.declared.place.Place.the-variants as place
 use Rattle.area.proofs.Places.{address-one, place-found}
-use Rattle.ledger.specs.Ledger.{Entry, Call, allocate, free, store, put, fresh, overwritten, RunState, begun, step, run}
+use Rattle.tags.specs.declared.format.Format.{Format}
+use Rattle.tags.specs.declared.refusal.Refusal.{Refusal}
+use Rattle.tags.specs.declared.refusal.Refusal.the-variants.{NoThread}
+use Rattle.tags.specs.declared.refusal.Answer.the-variants as answer
+use Rattle.ledger.specs.Ledger.{Entry, Ledger, Call, allocate, free, store, byNobody, put, fresh, overwritten, afterCall, RunState, begun, step, run}
 use Rattle.ledger.proofs.Counts.{put-same, put-other, range}
 use Rattle.ledger.proofs.Invariant.{Laid, outs, Invariant, chunk-some}
-use Rattle.ledger.proofs.Calls.{hold, taken-below, taken-in, allocate-unlawful, allocate-none, allocate-some}
+use Rattle.ledger.proofs.Calls.{hold, nobody, taken-below, taken-in, allocate-unlawful, allocate-none, allocate-some}
 use Rattle.ledger.proofs.Calls.{free-done, free-other, free-in, free-stray, store-done, store-past, store-in, store-stray}
 use Rattle.ledger.proofs.Keeps.{granted-keeps, freed-keeps, stored-keeps}
 use Rattle.ledger.proofs.Start.{laid-invariant}
@@ -40,6 +45,12 @@ pub record RunInvariant (g : Sheet) (w : RunState) : Type 0 where
   pub chain : List ℕ
   pub invariant : Invariant g head (w .areas) (w .ledger .out) chain
   pub balance : w .ledger .allocations ≡ w .ledger .frees + outCount g (w .ledger .out)
+
+-- B5 (a refused call)
+refused-ledger : (f : Format) (size : ℕ) (call : Call) (why : Refusal) (l : Ledger) → afterCall f size call (answer.Refused why) l ≡ l
+refused-ledger f size (allocate q t) why l = refl
+refused-ledger f size (free address q t) why l = refl
+refused-ledger f size (store address offset bytes) why l = refl
 
 module _ (g : Sheet) (laid : Laid g) where
   -- one entry of the ledger is changed
@@ -72,14 +83,15 @@ module _ (g : Sheet) (laid : Laid g) where
   -- ---- each call
 
   allocate-keeps : (w : RunState) (q : Grant) (t : Stamp) (head : ℕ) (chain : List ℕ) → Invariant g head (w .areas) (w .ledger .out) chain
-      → w .ledger .allocations ≡ w .ledger .frees + outCount g (w .ledger .out) → (b : Bool) → lawfulSize (g .format .profile) (g .size) q ≡ b
+      → w .ledger .allocations ≡ w .ledger .frees + outCount g (w .ledger .out) → isNobody (t .thread) ≡ false
+      → (b : Bool) → lawfulSize (g .format .profile) (g .size) q ≡ b
       → RunInvariant g (step (g .format) (g .size) (allocate q t) w)
-  allocate-keeps w q t head chain v k false e =
-      rw (allocate-unlawful g laid v q t e) (record { head = head; chain = chain; invariant = v; balance = k })
-  allocate-keeps w q t head [] v k true e =
-      rw (allocate-none g laid v q t e) (record { head = head; chain = []; invariant = v; balance = k })
-  allocate-keeps w q t head (j ∷ js) v k true e =
-      rw (allocate-some g laid v q t e)
+  allocate-keeps w q t head chain v k n false e =
+      rw (allocate-unlawful g laid v q t n e) (record { head = head; chain = chain; invariant = v; balance = k })
+  allocate-keeps w q t head [] v k n true e =
+      rw (allocate-none g laid v q t n e) (record { head = head; chain = []; invariant = v; balance = k })
+  allocate-keeps w q t head (j ∷ js) v k n true e =
+      rw (allocate-some g laid v q t n e)
       (record {
         head = nextWord (g .format) (w .areas .records) j;
         chain = js;
@@ -87,25 +99,26 @@ module _ (g : Sheet) (laid : Laid g) where
         balance = omega (arith, count-put j (taken-below g laid v) (some (fresh (g .format) (g .size) q)) (w .ledger .out), ap outs (taken-in g laid v));
       })
 
-  free-keeps : (w : RunState) (address : ℕ) (q : Grant) (t : Stamp) → RunInvariant g w → RunInvariant g (step (g .format) (g .size) (free address q t) w)
-  free-keeps w address q t f =
+  free-keeps : (w : RunState) (address : ℕ) (q : Grant) (t : Stamp) → isNobody (t .thread) ≡ false → RunInvariant g w
+      → RunInvariant g (step (g .format) (g .size) (free address q t) w)
+  free-keeps w address q t n f =
       by-address (w .ledger .out) (λ x. RunInvariant g (step (g .format) (g .size) (free x q t) w))
-      (λ x e. rw (free-stray g laid (f .invariant) x e q t) f)
-      (λ j h e. rw (free-in g laid (f .invariant) j h e q t) f)
+      (λ x e. rw (free-stray g laid (f .invariant) x e q t n) f)
+      (λ j h e. rw (free-in g laid (f .invariant) j h e q t n) f)
       (λ j h o e. go j h o e (sameGrant (o .grant) q) refl)
       address
     where
       go : (j : ℕ) → j < g .count → (o : Entry) → w .ledger .out (bufferAddress g j) ≡ some o → (b : Bool) → sameGrant (o .grant) q ≡ b
           → RunInvariant g (step (g .format) (g .size) (free (bufferAddress g j) q t) w)
       go j h o e true s =
-          rw (free-done g laid (f .invariant) j h o e q t s)
+          rw (free-done g laid (f .invariant) j h o e q t n s)
           (record {
             head = recordAddress g j;
             chain = j ∷ f .chain;
             invariant = freed-keeps g laid j o t (f .invariant) h e;
             balance = omega (arith, f .balance, count-put j h none (w .ledger .out), ap outs e);
           })
-      go j h o e false s = rw (free-other g laid (f .invariant) j h o e q t s) f
+      go j h o e false s = rw (free-other g laid (f .invariant) j h o e q t n s) f
 
   store-keeps : (w : RunState) (address offset : ℕ) (bytes : List ℕ) → RunInvariant g w
       → RunInvariant g (step (g .format) (g .size) (store address offset bytes) w)
@@ -139,10 +152,22 @@ module _ (g : Sheet) (laid : Laid g) where
           })
       go j h o e false s = rw (store-past g laid (f .invariant) j h o e offset bytes s) f
 
+  -- a call of nobody changes nothing
+  pub nobody-same : (call : Call) (w : RunState) → byNobody call ≡ true → RunInvariant g w → step (g .format) (g .size) call w ≡ w
+  nobody-same call w n f = rw (nobody g laid (f .invariant) call n, refused-ledger (g .format) (g .size) call NoThread (w .ledger))
+
+  somebody-keeps : (call : Call) (w : RunState) → byNobody call ≡ false → RunInvariant g w → RunInvariant g (step (g .format) (g .size) call w)
+  somebody-keeps (allocate q t) w n f =
+      allocate-keeps w q t (f .head) (f .chain) (f .invariant) (f .balance) n (lawfulSize (g .format .profile) (g .size) q) refl
+  somebody-keeps (free address q t) w n f = free-keeps w address q t n f
+  somebody-keeps (store address offset bytes) w n f = store-keeps w address offset bytes f
+
   pub step-keeps : (call : Call) (w : RunState) → RunInvariant g w → RunInvariant g (step (g .format) (g .size) call w)
-  step-keeps (allocate q t) w f = allocate-keeps w q t (f .head) (f .chain) (f .invariant) (f .balance) (lawfulSize (g .format .profile) (g .size) q) refl
-  step-keeps (free address q t) w f = free-keeps w address q t f
-  step-keeps (store address offset bytes) w f = store-keeps w address offset bytes f
+  step-keeps call w f = go (byNobody call) refl
+    where
+      go : (b : Bool) → byNobody call ≡ b → RunInvariant g (step (g .format) (g .size) call w)
+      go true n = rw (nobody-same call w n f) f
+      go false n = somebody-keeps call w n f
 
   pub run-keeps : (calls : List Call) (w : RunState) → RunInvariant g w → RunInvariant g (run (g .format) (g .size) calls w)
   unfolding run

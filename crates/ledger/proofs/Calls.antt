@@ -17,7 +17,7 @@ use Rattle.chunks.specs.declared.chunk.Grant.the-variants as grant
 use Rattle.area.specs.Record.{recordSize, addressWord}
 use Rattle.area.proofs.Records.{record-least}
 use Rattle.area.specs.declared.record.Stamp.{Stamp}
-use Rattle.sheet.specs.Areas.{Areas, result, refusedWith, imageOf, chunkIn}
+use Rattle.sheet.specs.Areas.{Areas, result, refusedWith, imageOf, chunkIn, isNobody}
 use Rattle.geometry.specs.Sheet.{headed, chunkPlace, bufferAddress, recordAddress, bufferOf, recordOf}
 use Rattle.places.specs.Spot.{spot}
 use Rattle.places.specs.declared.spot.Spot.{Spot}
@@ -28,7 +28,7 @@ use Rattle.client.specs.Store.{storePlan, storedAreas, storeOf}
 use Rattle.client.specs.Show.{shownOf}
 use Rattle.geometry.specs.declared.sheet.Sheet.{Sheet}
 use Rattle.area.specs.declared.place.Place.the-variants.{At, Nowhere}
-use Rattle.tags.specs.declared.refusal.Refusal.the-variants.{NoSuchBuffer, NoRoom, BadSize, NotAllocated, OtherGrant, PastClient}
+use Rattle.tags.specs.declared.refusal.Refusal.the-variants.{NoSuchBuffer, NoRoom, BadSize, NotAllocated, OtherGrant, PastClient, NoThread}
 use Rattle.tags.specs.Refusal.{done}
 use Rattle.tags.specs.declared.refusal.Answer.the-variants as answer
 use Rattle.held.specs.declared.Holding.{Holding}
@@ -36,7 +36,7 @@ use Rattle.held.specs.declared.Held.the-variants as held
 use Rattle.client.specs.declared.show.Shown.the-variants as shown
 use Rattle.area.proofs.Places.{place-at}
 use Rattle.chain.proofs.MetRecords.{occ-here}
-use Rattle.ledger.specs.Ledger.{Entry, asGranted}
+use Rattle.ledger.specs.Ledger.{Call, allocate, free, store, Entry, asGranted, resultOf, byNobody}
 use Rattle.ledger.proofs.Chunks.{chunkFor, LawfulEntry, granted-verdict, free-sound, client-part}
 use Rattle.ledger.proofs.Invariant.{Laid, outs, Invariant, record-fits, records-some, chunk-some, first-below, first-address, none-linked, opens}
 use Rattle.ledger.proofs.Found.{first-for, pattern-for}
@@ -109,27 +109,37 @@ module _ (g : Sheet) (laid : Laid g) where
     unfolding heldOf
     held-stray x e = rw e
 
+    -- ---- a call of nobody
+
+    pub nobody : (call : Call) → byNobody call ≡ true → resultOf (g .format .profile) call a ≡ refusedWith (answer.Refused NoThread) a
+    unfolding allocateOf allocatePlan freeOf freePlan
+    nobody (allocate q t) n = rw (opens g laid v, n)
+    nobody (free x q t) n = rw (opens g laid v, n)
+    nobody (store x offset bytes) n = absurd (let z : _≡_ {A = ℕ} 0 1 = cc in omega arith)
+
     -- ---- free
 
-    pub free-done : (j : ℕ) → j < g .count → (o : Entry) → out (bufferAddress g j) ≡ some o → (q : Grant) (t : Stamp) → sameGrant (o .grant) q ≡ true
+    pub free-done : (j : ℕ) → j < g .count → (o : Entry) → out (bufferAddress g j) ≡ some o → (q : Grant) (t : Stamp) → isNobody (t .thread) ≡ false
+        → sameGrant (o .grant) q ≡ true
         → freeOf (g .format .profile) a (bufferAddress g j) q t ≡ result done (freedAreas a t (pairAt head j))
     unfolding freeOf freePlan
-    free-done j h o e q t s = rw (opens g laid v, held-out j h o e, s)
+    free-done j h o e q t n s = rw (opens g laid v, n, held-out j h o e, s)
 
-    pub free-other : (j : ℕ) → j < g .count → (o : Entry) → out (bufferAddress g j) ≡ some o → (q : Grant) (t : Stamp) → sameGrant (o .grant) q ≡ false
+    pub free-other : (j : ℕ) → j < g .count → (o : Entry) → out (bufferAddress g j) ≡ some o → (q : Grant) (t : Stamp) → isNobody (t .thread) ≡ false
+        → sameGrant (o .grant) q ≡ false
         → freeOf (g .format .profile) a (bufferAddress g j) q t ≡ refusedWith (answer.Refused OtherGrant) a
     unfolding freeOf freePlan
-    free-other j h o e q t s = rw (opens g laid v, held-out j h o e, s)
+    free-other j h o e q t n s = rw (opens g laid v, n, held-out j h o e, s)
 
-    pub free-in : (j : ℕ) → j < g .count → out (bufferAddress g j) ≡ none → (q : Grant) (t : Stamp)
+    pub free-in : (j : ℕ) → j < g .count → out (bufferAddress g j) ≡ none → (q : Grant) (t : Stamp) → isNobody (t .thread) ≡ false
         → freeOf (g .format .profile) a (bufferAddress g j) q t ≡ refusedWith (answer.Refused NotAllocated) a
     unfolding freeOf freePlan
-    free-in j h e q t = rw (opens g laid v, held-in j h e)
+    free-in j h e q t n = rw (opens g laid v, n, held-in j h e)
 
-    pub free-stray : (x : ℕ) → bufferOf g x ≡ Nowhere → (q : Grant) (t : Stamp)
+    pub free-stray : (x : ℕ) → bufferOf g x ≡ Nowhere → (q : Grant) (t : Stamp) → isNobody (t .thread) ≡ false
         → freeOf (g .format .profile) a x q t ≡ refusedWith (answer.Refused NoSuchBuffer) a
     unfolding freeOf freePlan
-    free-stray x e q t = rw (opens g laid v, held-stray x e)
+    free-stray x e q t n = rw (opens g laid v, n, held-stray x e)
 
     -- ---- store
 
@@ -180,15 +190,16 @@ module _ (g : Sheet) (laid : Laid g) where
 
     -- ---- allocate
 
-    pub allocate-unlawful : (q : Grant) (t : Stamp) → lawfulSize (g .format .profile) (g .size) q ≡ false
+    pub allocate-unlawful : (q : Grant) (t : Stamp) → isNobody (t .thread) ≡ false → lawfulSize (g .format .profile) (g .size) q ≡ false
         → allocateOf (g .format .profile) a q t ≡ refusedWith (answer.Refused BadSize) a
     unfolding allocateOf allocatePlan takenOf
-    allocate-unlawful q t e = rw (opens g laid v, e)
+    allocate-unlawful q t n e = rw (opens g laid v, n, e)
 
-  pub allocate-none : {head : ℕ} {a : Areas} {out : ℕ → Option Entry} → Invariant g head a out [] → (q : Grant) (t : Stamp) → lawfulSize (g .format .profile) (g .size) q ≡ true
+  pub allocate-none : {head : ℕ} {a : Areas} {out : ℕ → Option Entry} → Invariant g head a out [] → (q : Grant) (t : Stamp) → isNobody (t .thread) ≡ false
+      → lawfulSize (g .format .profile) (g .size) q ≡ true
       → allocateOf (g .format .profile) a q t ≡ refusedWith (answer.Refused NoRoom) a
   unfolding allocateOf allocatePlan takenOf
-  allocate-none {head} v q t e = rw (opens g laid v, e, eq-eqb head 0 (none-linked g laid _ head (v .linked)))
+  allocate-none {head} v q t n e = rw (opens g laid v, n, e, eq-eqb head 0 (none-linked g laid _ head (v .linked)))
 
   module _ {head : ℕ} {a : Areas} {out : ℕ → Option Entry} {j : ℕ} {js : List ℕ} (v : Invariant g head a out (j ∷ js)) where
     pub taken-below : j < g .count
@@ -198,16 +209,17 @@ module _ (g : Sheet) (laid : Laid g) where
     pub taken-in : out (bufferAddress g j) ≡ none
     taken-in = none-out (out (bufferAddress g j)) (omega (arith, v .each j taken-below, occ-here j js))
 
-    pub allocate-some : (q : Grant) (t : Stamp) → lawfulSize (g .format .profile) (g .size) q ≡ true
+    pub allocate-some : (q : Grant) (t : Stamp) → isNobody (t .thread) ≡ false → lawfulSize (g .format .profile) (g .size) q ≡ true
         → allocateOf (g .format .profile) a q t ≡ result (answer.Value (bufferAddress g j)) (grantedAreas a q t (pairAt head j))
     unfolding allocateOf allocatePlan takenOf takenHead takenChunk
-    allocate-some q t e =
+    allocate-some q t n e =
         let h = taken-below in
         let at = first-address g laid _ head j js (v .linked) in
         let word = record-fits g laid j h in
         let few = laid .law .sizes .most in
         rw (
           opens g laid v,
+          n,
           e,
           ne-eqb head 0 (λ z. records-some g laid (omega arith)),
           record-place j h head at,

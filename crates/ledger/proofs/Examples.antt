@@ -32,7 +32,7 @@ use Rattle.allocation.specs.Allocate.{takenChunk, takenHead, takenOf, allocateP
 use Rattle.held.specs.Held.{heldChunk, heldOf}
 use Rattle.free.specs.Free.{freePlan, freedAreas, freeOf}
 use Rattle.client.specs.Store.{storePlan, storedAreas, storeOf}
-use Rattle.tags.specs.declared.refusal.Refusal.the-variants.{NoSuchBuffer, NoRoom, BadSize, OtherGrant}
+use Rattle.tags.specs.declared.refusal.Refusal.the-variants.{NoSuchBuffer, NoRoom, BadSize, OtherGrant, NoThread}
 use Rattle.tags.specs.Refusal.{done}
 use Rattle.tags.specs.declared.refusal.Answer.the-variants as answer
 use Rattle.tags.specs.declared.refusal.Answer.{Answer}
@@ -63,9 +63,16 @@ state₀ p o calls = run (formatOf p o) (size₀ p) calls (begun (layOutOf (area
 answer₀ : Profile → Order → List Call → Call → Answer
 answer₀ p o calls call = resultOf p call (state₀ p o calls .areas) .answer
 
--- a grant of 5 bytes, two bytes stored from offset 1 on, a store past the 5 bytes, and a whole grant
+-- nobody asks for a buffer; a grant of 5 bytes, two bytes stored from offset 1 on, a store past the 5 bytes; nobody gives the buffer back; a whole grant
 calls₀ : List Call
-calls₀ = allocate (grant.Sized 5) (stampOf 1 7) ∷ store 4096 1 (17 ∷ 18 ∷ []) ∷ store 4096 4 (17 ∷ 18 ∷ []) ∷ allocate grant.Whole (stampOf 2 7) ∷ []
+calls₀ =
+    allocate (grant.Sized 5) (stampOf 1 0)
+    ∷ allocate (grant.Sized 5) (stampOf 1 7)
+    ∷ store 4096 1 (17 ∷ 18 ∷ [])
+    ∷ store 4096 4 (17 ∷ 18 ∷ [])
+    ∷ free 4096 (grant.Sized 5) (stampOf 2 0)
+    ∷ allocate grant.Whole (stampOf 2 7)
+    ∷ []
 
 -- then the first buffer is given back
 calls₁ : List Call
@@ -84,13 +91,16 @@ Out p o =
     × (state₀ p o calls₀ .ledger .allocations ≡ 2)
     × (state₀ p o calls₀ .ledger .frees ≡ 0)
 
--- there is no room for another; a size above the buffer's, a free with another grant and one of no buffer are refused
+-- there is no room for another; a size above the buffer's, a free with another grant and one of no buffer are refused; and nobody is refused before all of
+-- these
 Refuses : Profile → Order → Type 0
 Refuses p o =
     (answer₀ p o calls₀ (allocate (grant.Sized 1) (stampOf 4 7)) ≡ answer.Refused NoRoom)
     × (answer₀ p o calls₀ (allocate (grant.Sized 9) (stampOf 4 7)) ≡ answer.Refused BadSize)
     × (answer₀ p o calls₀ (free 4096 (grant.Sized 6) (stampOf 4 7)) ≡ answer.Refused OtherGrant)
     × (answer₀ p o calls₀ (free 4097 (grant.Sized 5) (stampOf 4 7)) ≡ answer.Refused NoSuchBuffer)
+    × (answer₀ p o calls₀ (allocate (grant.Sized 9) (stampOf 4 0)) ≡ answer.Refused NoThread)
+    × (answer₀ p o calls₀ (free 4097 (grant.Sized 6) (stampOf 4 0)) ≡ answer.Refused NoThread)
 
 -- after a free the buffer isn't out, and it is the one that is granted next
 Back : Profile → Order → Type 0
@@ -105,10 +115,10 @@ unfolding size₀ second₀ areas₀ state₀ answer₀ calls₀ calls₁ client
     decodedOf chunkOf freeChunk grantedChunk tagAt freeVerdict zoneVerdict sizedVerdict allocatedVerdict headerSize headerBytes headerRight headerVerdict headedVerdict codedVerdict recordSize withNext stamped fieldIs isShort isLong
     shaped orderNumber sheetOf withHead measured numbered ordered openedOf placeOf recordWord takenChunk takenHead takenOf allocatePlan
     grantedAreas allocateOf heldChunk heldOf freePlan freedAreas freeOf storePlan storedAreas storeOf
-evaluated Kernel HighFirst = ((refl, refl, refl, refl), (refl, refl, refl, refl), (refl, refl, refl))
-evaluated Kernel LowFirst = ((refl, refl, refl, refl), (refl, refl, refl, refl), (refl, refl, refl))
-evaluated Userland HighFirst = ((refl, refl, refl, refl), (refl, refl, refl, refl), (refl, refl, refl))
-evaluated Userland LowFirst = ((refl, refl, refl, refl), (refl, refl, refl, refl), (refl, refl, refl))
+evaluated Kernel HighFirst = ((refl, refl, refl, refl), (refl, refl, refl, refl, refl, refl), (refl, refl, refl))
+evaluated Kernel LowFirst = ((refl, refl, refl, refl), (refl, refl, refl, refl, refl, refl), (refl, refl, refl))
+evaluated Userland HighFirst = ((refl, refl, refl, refl), (refl, refl, refl, refl, refl, refl), (refl, refl, refl))
+evaluated Userland LowFirst = ((refl, refl, refl, refl), (refl, refl, refl, refl, refl, refl), (refl, refl, refl))
 
 -- the claim holds of this image and these calls
 sound₀ : (p : Profile) (o : Order) → Sound (laidSheet (formatOf p o) 64 4096 8192 (size₀ p) 2) (state₀ p o calls₀)

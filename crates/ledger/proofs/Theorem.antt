@@ -1,18 +1,20 @@
 -- The theorem: after an accepted lay out and any list of calls the claim holds. Assumes nothing.
 use mathlib.Core.Path.{_≡_, refl, sym, ap, _∙_}
 use mathlib.Core.Logic.{_≢_, _↔_}
-use mathlib.Core.Bool.{true, false}
+use mathlib.Core.Bool.{true, false, and-eq-true-iff}
 use mathlib.Core.List.{List, [], _∷_}
 use mathlib.Core.Option.{Option, none, some}
 use Prim.Native.Nat.{ℕ, _+_, _<_}
 use native.Mathlib.Decide.{decLt}
 use native.Mathlib.Omega.{arith}
+use borrow.Author.Tests.{not-true}
 use Rattle.words.specs.Word.{part}
 use Rattle.tags.specs.Verdict.{verdictNumber, isFault}
+use Rattle.tags.specs.declared.format.Profile.{Profile}
 use Rattle.chunks.specs.Chunk.{lawfulSize}
 use Rattle.chunks.specs.declared.chunk.Grant.{Grant}
 use Rattle.area.specs.declared.record.Stamp.{Stamp}
-use Rattle.sheet.specs.Areas.{Areas, Result}
+use Rattle.sheet.specs.Areas.{Areas, Result, isNobody}
 use Rattle.geometry.specs.Sheet.{laidSheet, headed, bufferAddress}
 use Rattle.chain.specs.Chain.{Chain, occ, chainOf}
 use Rattle.chain.specs.Pairing.{ownOf}
@@ -26,12 +28,12 @@ use Rattle.tags.specs.declared.refusal.Answer.{Answer}
 use Rattle.tags.specs.declared.refusal.Answer.the-variants as answer
 use Rattle.client.specs.declared.show.Shown.the-variants as shown
 use Rattle.chain.proofs.MetRecords.{occ-none}
-use Rattle.ledger.specs.Ledger.{Entry, RunState, imageAt, timesMet, isOut, Sound, Claim}
+use Rattle.ledger.specs.Ledger.{Entry, RunState, lawfulRequest, imageAt, timesMet, isOut, Sound, Claim}
 use Rattle.ledger.proofs.Invariant.{Laid, outs, Invariant, opens}
 use Rattle.ledger.proofs.Found.{entered-sound, image, own-is, chain-is, verdict-is, found-count}
-use Rattle.ledger.proofs.Calls.{none-out, taken-below, taken-in, allocate-none, allocate-some, show-out, show-in, client-is}
+use Rattle.ledger.proofs.Calls.{none-out, nobody, taken-below, taken-in, allocate-none, allocate-some, show-out, show-in, client-is}
 use Rattle.ledger.proofs.Start.{accepted, laid-known}
-use Rattle.ledger.proofs.Always.{RunInvariant, by-address, run-keeps, begun-keeps}
+use Rattle.ledger.proofs.Always.{RunInvariant, by-address, nobody-same, run-keeps, begun-keeps}
 
 times-met : (o : Option Entry) (k : ℕ) → k + outs o ≡ 1 → k ≡ timesMet o
 times-met none k e = omega arith
@@ -48,6 +50,11 @@ not-out (some o) e f = let z : _≡_ {A = ℕ} 0 1 = cc in omega arith
 
 not-entry : (o : Option Entry) (l : Entry) → o ≡ none → o ≡ some l → ⊥
 not-entry o l e f = let z : _≡_ {A = ℕ} 0 1 = cc in omega arith
+
+-- what a request of lawful size is
+lawful-request : (p : Profile) (size : ℕ) (q : Grant) (t : Stamp) → lawfulRequest p size q t ≡ true
+    → (isNobody (t .thread) ≡ false) × (lawfulSize p size q ≡ true)
+lawful-request p size q t e = let k = and-eq-true-iff _ _ .0 e in (not-true _ (k .0), k .1)
 
 module _ (g : Sheet) (laid : Laid g) where
   -- ---- each clause, from the invariant
@@ -94,26 +101,40 @@ module _ (g : Sheet) (laid : Laid g) where
         (λ j h p e o f. (_, (_, (_, (show-out g laid v j h o f, client-is g laid v j h o f)))))
         x o
 
+  -- a request of lawful size, by whether a buffer is left on the chain
+  answer-none : {head : ℕ} {a : Areas} {out : ℕ → Option Entry} → Invariant g head a out [] → (q : Grant) (t : Stamp)
+      → lawfulRequest (g .format .profile) (g .size) q t ≡ true → allocateOf (g .format .profile) a q t .answer ≡ answer.Refused NoRoom
+  answer-none v q t e =
+      let k = lawful-request (g .format .profile) (g .size) q t e in
+      ap (λ (r : Result Answer). r .answer) (allocate-none g laid v q t (k .0) (k .1))
+
+  answer-some : {head : ℕ} {a : Areas} {out : ℕ → Option Entry} {j : ℕ} {js : List ℕ} → Invariant g head a out (j ∷ js) → (q : Grant) (t : Stamp)
+      → lawfulRequest (g .format .profile) (g .size) q t ≡ true
+      → allocateOf (g .format .profile) a q t .answer ≡ answer.Value (bufferAddress g j)
+  answer-some v q t e =
+      let k = lawful-request (g .format .profile) (g .size) q t e in
+      ap (λ (r : Result Answer). r .answer) (allocate-some g laid v q t (k .0) (k .1))
+
   full : {head : ℕ} {a : Areas} {out : ℕ → Option Entry} (chain : List ℕ) → Invariant g head a out chain → (q : Grant) (t : Stamp)
-      → lawfulSize (g .format .profile) (g .size) q ≡ true
+      → lawfulRequest (g .format .profile) (g .size) q t ≡ true
       → (allocateOf (g .format .profile) a q t .answer ≡ answer.Refused NoRoom) ↔ ((i : ℕ) → i < g .count → isOut (out (bufferAddress g i)) ≡ true)
   full {out = out} [] v q t e = (
     λ _ i h. is-out (out (bufferAddress g i)) (omega (arith, v .each i h, occ-none i)),
-    λ _. ap (λ (r : Result Answer). r .answer) (allocate-none g laid v q t e),
+    λ _. answer-none v q t e,
   )
   full {out = out} (j ∷ js) v q t e = (
     λ f. absurd
-        (let s = ap (λ (r : Result Answer). r .answer) (allocate-some g laid v q t e) in let z : _≡_ {A = ℕ} 0 1 = cc in omega arith),
+        (let s = answer-some v q t e in let z : _≡_ {A = ℕ} 0 1 = cc in omega arith),
     λ f. absurd (not-out (out (bufferAddress g j)) (taken-in g laid v) (f j (taken-below g laid v))),
   )
 
   accepts : {head : ℕ} {a : Areas} {out : ℕ → Option Entry} (chain : List ℕ) → Invariant g head a out chain → (q : Grant) (t : Stamp)
-      → lawfulSize (g .format .profile) (g .size) q ≡ true → (allocateOf (g .format .profile) a q t .answer ≢ answer.Refused NoRoom)
+      → lawfulRequest (g .format .profile) (g .size) q t ≡ true → (allocateOf (g .format .profile) a q t .answer ≢ answer.Refused NoRoom)
       → (i : ℕ) × ((i < g .count) × ((out (bufferAddress g i) ≡ none) × (allocateOf (g .format .profile) a q t .answer ≡ answer.Value (bufferAddress g i))))
-  accepts [] v q t e ne = absurd (ne (ap (λ (r : Result Answer). r .answer) (allocate-none g laid v q t e)))
+  accepts [] v q t e ne = absurd (ne (answer-none v q t e))
   accepts (j ∷ js) v q t e ne = (
     j,
-    (taken-below g laid v, (taken-in g laid v, ap (λ (r : Result Answer). r .answer) (allocate-some g laid v q t e))),
+    (taken-below g laid v, (taken-in g laid v, answer-some v q t e)),
   )
 
   pub sound : (w : RunState) → RunInvariant g w → Sound g w
@@ -139,6 +160,7 @@ module _ (g : Sheet) (laid : Laid g) where
         hides = λ i h e. show-in g laid v i h e;
         room = full (f .chain) v;
         accepts = accepts (f .chain) v;
+        nobody = λ call n. (ap (λ (r : Result Answer). r .answer) (nobody g laid v call n), nobody-same g laid call w n f);
       }
 
 -- the theorem of "The ledger of demand 3"

@@ -1,7 +1,7 @@
 -- The calls, the ledger that is kept from their arguments and answers alone, a run of calls, and what holds after every run. Assumes nothing.
 use mathlib.Core.Path.{_≡_}
 use mathlib.Core.Logic.{_≢_, _↔_}
-use mathlib.Core.Bool.{Bool, true, false, cond}
+use mathlib.Core.Bool.{Bool, true, false, _&&_, not, cond}
 use mathlib.Core.List.{List, [], _∷_}
 use mathlib.Core.Option.{Option, none, some}
 use Prim.Native.Nat.{ℕ, suc, _+_, _<_}
@@ -16,7 +16,7 @@ use Rattle.tags.specs.Verdict.{verdictNumber, isFault, isFoundAllocated}
 use Rattle.tags.specs.declared.format.Format.{Format}
 use Rattle.tags.specs.declared.format.Profile.{Profile}
 use Rattle.tags.specs.declared.ending.Ending.the-variants.{End}
-use Rattle.tags.specs.declared.refusal.Refusal.the-variants.{NoRoom, NotAllocated}
+use Rattle.tags.specs.declared.refusal.Refusal.the-variants.{NoRoom, NotAllocated, NoThread}
 use Rattle.tags.specs.declared.refusal.Answer.{Answer}
 use Rattle.tags.specs.declared.refusal.Answer.the-variants as answer
 use Rattle.tags.specs.declared.verdict.Verdict.{Verdict}
@@ -25,7 +25,7 @@ use Rattle.chunks.specs.Chunk.{grantFill, grantSize, lawfulSize}
 use Rattle.chunks.specs.declared.chunk.Grant.{Grant}
 use Rattle.chunks.specs.declared.chunk.Grant.the-variants as grant
 use Rattle.area.specs.declared.record.Stamp.{Stamp}
-use Rattle.sheet.specs.Areas.{Areas, Result, Image, imageOf, opening}
+use Rattle.sheet.specs.Areas.{Areas, Result, Image, imageOf, opening, isNobody}
 use Rattle.geometry.specs.Sheet.{laidSheet, headed, bufferAddress}
 use Rattle.geometry.specs.declared.sheet.Sheet.{Sheet}
 use Rattle.sheet.specs.declared.opening.Opened.the-variants as opened
@@ -53,6 +53,16 @@ abbrev pub resultOf : Profile → Call → Areas → Result Answer
 resultOf p (allocate q s) a = allocateOf p a q s
 resultOf p (free address q s) a = freeOf p a address q s
 resultOf p (store address offset bytes) a = storeOf p a address offset bytes
+
+-- X13 (a call of nobody): an allocate or a free of thread 0
+abbrev pub byNobody : Call → Bool
+byNobody (allocate q s) = isNobody (s .thread)
+byNobody (free address q s) = isNobody (s .thread)
+byNobody (store address offset bytes) = false
+
+-- B12 (a request of lawful size): an allocate that neither X13 nor X6 fits
+abbrev pub lawfulRequest : Profile → ℕ → Grant → Stamp → Bool
+lawfulRequest p size q s = not (isNobody (s .thread)) && lawfulSize p size q
 
 -- ---- the ledger
 
@@ -192,18 +202,21 @@ pub record Sound (laid : Sheet) (w : RunState) : Type 0 where
       × ((shownOf (laid .format .profile) (w .areas) a ≡ shown.Client buffer start len) × (part (w .areas .heap) (buffer + start) len ≡ o .client))))
   pub hides : (i : ℕ) → i < laid .count → w .ledger .out (bufferAddress laid i) ≡ none
       → shownOf (laid .format .profile) (w .areas) (bufferAddress laid i) ≡ shown.Refused NotAllocated
-  -- B12: a request of lawful size, which X6 does not fit, is refused for want of room, X5, exactly when all buffers are out; else it is accepted, with
-  -- the address of a buffer that is not out
-  pub room : (q : Grant) (s : Stamp) → lawfulSize (laid .format .profile) (laid .size) q ≡ true
+  -- B12: a request of lawful size is refused for want of room, X5, exactly when all buffers are out; else it is accepted, with the address of a buffer
+  -- that is not out
+  pub room : (q : Grant) (s : Stamp) → lawfulRequest (laid .format .profile) (laid .size) q s ≡ true
       → (allocateOf (laid .format .profile) (w .areas) q s .answer ≡ answer.Refused NoRoom)
       ↔ ((i : ℕ) → i < laid .count → isOut (w .ledger .out (bufferAddress laid i)) ≡ true)
-  pub accepts : (q : Grant) (s : Stamp) → lawfulSize (laid .format .profile) (laid .size) q ≡ true
+  pub accepts : (q : Grant) (s : Stamp) → lawfulRequest (laid .format .profile) (laid .size) q s ≡ true
       → (allocateOf (laid .format .profile) (w .areas) q s .answer ≢ answer.Refused NoRoom)
       → (i : ℕ)
       × ((i < laid .count)
       × ((w .ledger .out (bufferAddress laid i) ≡ none) × (allocateOf (laid .format .profile) (w .areas) q s .answer ≡ answer.Value (bufferAddress laid i))))
+  -- B13: a call of nobody is refused with X13, and changes neither the areas nor the ledger
+  pub nobody : (call : Call) → byNobody call ≡ true
+      → (resultOf (laid .format .profile) call (w .areas) .answer ≡ answer.Refused NoThread) × (step (laid .format) (laid .size) call w ≡ w)
 
--- B6 to B12, one claim about the whole list: after an accepted lay out, under either profile and in either order, whose cache address is a word, and any calls
+-- B6 to B13, one claim about the whole list: after an accepted lay out, under either profile and in either order, whose cache address is a word, and any calls
 abbrev pub Claim : Type 0
 Claim = (a : Areas) (f : Format) (cache heap records size n : ℕ) → cache < 4294967296 → layOutOf a f cache heap records size n .answer ≡ done
     → (calls : List Call)

@@ -1,6 +1,8 @@
 -- The three areas that a call is lent, what a call leaves in them, and the image that they are once they are open. Assumes nothing.
+use mathlib.Core.Bool.{Bool, cond}
 use mathlib.Core.List.{List}
 use Prim.Native.Nat.{ℕ}
+use lib.Dec.{eqb}
 use lib.ListN.{length}
 use denote.Ref.{RefT, now}
 use denote.Triple.Both.{Both}
@@ -8,6 +10,7 @@ pub use Rattle.area.specs.Place.{PartAt}
 use Rattle.words.specs.Word.{part}
 use Rattle.tags.specs.declared.format.Profile.{Profile}
 use Rattle.tags.specs.declared.refusal.Refusal.{Refusal}
+use Rattle.tags.specs.declared.refusal.Refusal.the-variants.{NoThread}
 use Rattle.geometry.specs.Sheet.{chunkPlace}
 use Rattle.sheet.specs.Opening.{openedOf, openedWithLog, byOpened}
 use Rattle.geometry.specs.declared.sheet.Sheet.{Sheet}
@@ -89,6 +92,14 @@ openingWithLog p a l = openedWithLog p (a .sheet) (length (a .heap)) (length (a 
 -- by whether the areas are an image, as one of the two tells
 abbrev pub byImage : {A : Type 0} → Opened → Areas → (Image → A) → (Refusal → A) → A
 byImage o a f shut = byOpened o (λ g. f (imageOf a g)) shut
+
+-- X13 (thread 0 is nobody)
+abbrev pub isNobody : ℕ → Bool
+isNobody thread = eqb thread 0
+
+-- E3 (X13 right after X3, in a call that notes its thread): by whether that is somebody's
+abbrev pub bySomebody : {A : Type 0} → ℕ → A → (Refusal → A) → A
+bySomebody thread rest shut = cond (isNobody thread) (shut NoThread) rest
 
 -- A1 (the chunk of buffer i), in a heap and in an image
 abbrev pub chunkIn : Sheet → List ℕ → ℕ → List ℕ

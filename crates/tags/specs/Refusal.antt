@@ -4,9 +4,9 @@ use Rattle.tags.specs.Verdict.{verdictNumber}
 use Rattle.tags.specs.declared.refusal.Refusal.{Refusal}
 use Rattle.tags.specs.declared.refusal.Answer.{Answer}
 use Rattle.tags.specs.declared.refusal.Answer.the-variants.{Value}
-use Rattle.tags.specs.declared.refusal.Refusal.the-variants.{BadSheet, BadNumber, BadLength, NoSuchBuffer, NoRoom, BadSize, Damage, BrokenHead, NotAllocated, OtherGrant, PastClient, ShortOutput, WideStamp}
+use Rattle.tags.specs.declared.refusal.Refusal.the-variants.{BadSheet, BadNumber, BadLength, NoSuchBuffer, NoRoom, BadSize, Damage, BrokenHead, NotAllocated, OtherGrant, PastClient, ShortOutput, WideStamp, NoThread}
 
--- X1 to X12: the rule's number is the refusal's
+-- X1 to X13: the rule's number is the refusal's
 abbrev pub refusalNumber : Refusal → ℕ
 refusalNumber BadSheet = 1
 refusalNumber BadNumber = 2
@@ -21,6 +21,7 @@ refusalNumber OtherGrant = 9
 refusalNumber PastClient = 10
 refusalNumber ShortOutput = 11
 refusalNumber WideStamp = 12
+refusalNumber NoThread = 13
 
 -- E2 (the detail: of 7 the verdict's number, or 29 for a broken head; else 0)
 abbrev pub refusalDetail : Refusal → ℕ
@@ -37,6 +38,7 @@ refusalDetail OtherGrant = 0
 refusalDetail PastClient = 0
 refusalDetail ShortOutput = 0
 refusalDetail WideStamp = 0
+refusalDetail NoThread = 0
 
 -- a call that was carried out and has nothing to tell
 abbrev pub done : Answer

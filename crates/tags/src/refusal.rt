@@ -4,7 +4,7 @@ ghost use Rattle.tags.specs.Refusal.{refusalNumber, refusalDetail};
 use crate::verdict;
 use crate::verdict::Verdict;
 
-// Document 01's refusals, in the order of their numbers. A broken head is damage of its own kind.
+// The rules' refusals, in the order of their numbers. A broken head is damage of its own kind.
 pub enum Refusal {
     BadSheet,
     BadNumber,
@@ -19,6 +19,7 @@ pub enum Refusal {
     PastClient,
     ShortOutput,
     WideStamp,
+    NoThread,
 }
 
 // What a call answers: a number, which is 0 where there is nothing to tell, or why it is refused.
@@ -45,6 +46,7 @@ pub fn number(r: Refusal) -> u32
         Refusal::PastClient => 10,
         Refusal::ShortOutput => 11,
         Refusal::WideStamp => 12,
+        Refusal::NoThread => 13,
     }
 }
 
@@ -66,5 +68,6 @@ pub fn detail(r: Refusal) -> u32
         Refusal::PastClient => 0,
         Refusal::ShortOutput => 0,
         Refusal::WideStamp => 0,
+        Refusal::NoThread => 0,
     }
 }

@@ -2,8 +2,8 @@
 
 use crate::{ffi, Answer, Grant, Profile, Refusal};
 
-/// Grants the buffer of the chain's first record and answers its address. A refusal
-/// changes nothing.
+/// Grants the buffer of the chain's first record and answers its address; the record is
+/// stamped with uptime and thread, which is not 0. A refusal changes nothing.
 pub fn allocate(
     profile: Profile,
     sheet: &mut [u8],

@@ -68,11 +68,12 @@ mod tests {
         let damage = Refusal::Damage(Fault::BadHeader);
         assert_eq!(Answer(0x1e07).value(), Err(damage));
         assert_eq!(Answer(12).value(), Err(Refusal::WideStamp));
+        assert_eq!(Answer(13).value(), Err(Refusal::NoThread));
     }
 
     #[test]
-    #[should_panic(expected = "refusal [13, 0], which no rule names")]
+    #[should_panic(expected = "refusal [14, 0], which no rule names")]
     fn number_of_no_refusal() {
-        let _ = Answer(13).value();
+        let _ = Answer(14).value();
     }
 }

@@ -3,7 +3,8 @@
 use crate::{ffi, Answer, Grant, Profile, Refusal};
 
 /// Takes back the buffer at an address, with the grant it was handed out with; its
-/// record becomes the chain's first. A refusal changes nothing.
+/// record becomes the chain's first and is stamped with uptime and thread, which is not
+/// 0. A refusal changes nothing.
 pub fn free(
     profile: Profile,
     sheet: &mut [u8],

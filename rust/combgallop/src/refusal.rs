@@ -21,6 +21,7 @@ pub enum Refusal {
     PastClient,
     ShortOutput,
     WideStamp,
+    NoThread,
 }
 
 impl Refusal {
@@ -40,6 +41,7 @@ impl Refusal {
             (10, 0) => Refusal::PastClient,
             (11, 0) => Refusal::ShortOutput,
             (12, 0) => Refusal::WideStamp,
+            (13, 0) => Refusal::NoThread,
             _ => return None,
         })
     }
@@ -58,6 +60,7 @@ impl Refusal {
             Refusal::PastClient => 10,
             Refusal::ShortOutput => 11,
             Refusal::WideStamp => 12,
+            Refusal::NoThread => 13,
         }
     }
 
@@ -91,6 +94,7 @@ impl Refusal {
             Refusal::PastClient => "the bytes pass the end of what was granted",
             Refusal::ShortOutput => "the output is too short",
             Refusal::WideStamp => "the record's timestamp needs more than 32 bits",
+            Refusal::NoThread => "the thread is 0, which is nobody's",
         }
     }
 }
@@ -120,7 +124,7 @@ mod tests {
     use crate::Fault;
 
     /// The document's table, "detail is the verdict number, or 29 for a broken head".
-    const TABLE: [(u8, u8, Refusal); 22] = [
+    const TABLE: [(u8, u8, Refusal); 23] = [
         (1, 0, Refusal::BadSheet),
         (2, 0, Refusal::BadNumber),
         (3, 0, Refusal::BadLength),
@@ -143,6 +147,7 @@ mod tests {
         (10, 0, Refusal::PastClient),
         (11, 0, Refusal::ShortOutput),
         (12, 0, Refusal::WideStamp),
+        (13, 0, Refusal::NoThread),
     ];
 
     /// All pairs of a number and a detail there can be, so that none has a meaning that

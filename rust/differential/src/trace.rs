@@ -103,6 +103,7 @@ fn trace_in(profile: Profile, order: Order) -> String {
     };
     trace.begin();
     trace.store_and_show();
+    trace.refuse_nobody();
     trace.fill_and_free();
     trace.ask();
     trace.read();
@@ -129,6 +130,13 @@ impl Trace {
         self.store(SECOND, 24, b"");
         self.show(FIRST);
         self.show(SECOND);
+    }
+
+    fn refuse_nobody(&mut self) {
+        self.allocate(Grant::Sized(1), 260, 0);
+        self.allocate(Grant::Sized(0), 260, 0);
+        self.free(SECOND, Grant::Whole, 260, 0);
+        self.free(SECOND + 4, Grant::Whole, 260, 0);
     }
 
     fn fill_and_free(&mut self) {

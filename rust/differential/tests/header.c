@@ -161,6 +161,15 @@ static void take_back(uint32_t address, bool whole, uint32_t size)
                                  fresh_records, RECORDS, address, whole, size, 0x33, 0x44));
 }
 
+/* Both calls of thread 0, with a size and at an address that are refused too. */
+static void call_as_nobody(void)
+{
+    print_answer("allocate", cg_allocate(false, fresh_sheet, SHEET, fresh_heap, FRESH_HEAP,
+                                         fresh_records, RECORDS, false, 9, 0x11, 0));
+    print_answer("free", cg_free(false, fresh_sheet, SHEET, fresh_heap, FRESH_HEAP,
+                                 fresh_records, RECORDS, BASE + 1, true, 0, 0x33, 0));
+}
+
 static void store(uint32_t address, uint32_t offset, const char *text)
 {
     print_answer("store", cg_store(false, fresh_sheet, SHEET, fresh_heap, FRESH_HEAP,
@@ -196,6 +205,7 @@ static void make_calls(bool low)
     lay_out(low, SHEET, 8);
     print_bytes(fresh_sheet + CG_SHORT_SHEET_LENGTH, 4);
     allocate(false, 9);
+    call_as_nobody();
     allocate(false, 5);
     print_bytes(fresh_records + 16, 12);
     allocate(true, 9);
@@ -249,6 +259,15 @@ static void userland_free(uint32_t size)
                                  0x44));
 }
 
+static void userland_call_as_nobody(void)
+{
+    print_answer("allocate", cg_allocate(true, fresh_sheet, SHEET, userland_heap, HEAP,
+                                         userland_records, USERLAND_RECORDS, false, 10, 0x11,
+                                         0));
+    print_answer("free", cg_free(true, fresh_sheet, SHEET, userland_heap, HEAP,
+                                 userland_records, USERLAND_RECORDS, BASE, false, 10, 0x33, 0));
+}
+
 static void userland_store(uint32_t offset, const char *text)
 {
     print_answer("store", cg_store(true, fresh_sheet, SHEET, userland_heap, HEAP,
@@ -297,6 +316,7 @@ static void make_userland_calls(bool low)
     userland_lay_out(low, USERLAND_RECORDS);
     userland_allocate(false, 0);
     userland_allocate(false, 17);
+    userland_call_as_nobody();
     userland_allocate(false, 10);
     print_bytes(userland_heap, 20);
     userland_allocate(true, 0);

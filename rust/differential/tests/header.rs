@@ -52,11 +52,12 @@ faults 0
 
 /// The calls on a fresh image that is high-first: four refused lay outs, two of them by
 /// the sheet's length, and one accepted, with the field of its order; the buffers at
-/// 4096, 4120 and 4144 granted with 5 bytes and whole, after a size too large and before
-/// one too many; of the first, stamp 0x11 and thread 0x22; what was stored in the first
-/// and stands in the second; two wrong grants, and the first two given back, the second
-/// by a size that is not read and then again; the second granted anew, with its redzone
-/// words, 0xbb before the rest of 0xfeedface and 251 x 8 + 1; the third hurt.
+/// 4096, 4120 and 4144 granted with 5 bytes and whole, after a size too large and both
+/// calls of thread 0 and before one too many; of the first, stamp 0x11 and thread 0x22;
+/// what was stored in the first and stands in the second; two wrong grants, and the first
+/// two given back, the second by a size that is not read and then again; the second granted
+/// anew, with its redzone words, 0xbb before the rest of 0xfeedface and 251 x 8 + 1; the
+/// third hurt.
 const HIGH: &str = "\
 lay out 1 0 0
 lay out 1 0 0
@@ -64,6 +65,8 @@ lay out 2 0 0
 lay out 3 0 0
 lay out 0 0 0\n 09 00 01 00
 allocate 6 0 0
+allocate 13 0 0
+free 13 0 0
 allocate 0 0 4096\n 00 00 00 00 00 00 00 11 00 00 00 22
 allocate 0 0 4120
 allocate 0 0 4144
@@ -92,6 +95,8 @@ lay out 2 0 0
 lay out 3 0 0
 lay out 0 0 0\n 09 00 01 01
 allocate 6 0 0
+allocate 13 0 0
+free 13 0 0
 allocate 0 0 4096\n 11 00 00 00 00 00 00 00 22 00 00 00
 allocate 0 0 4120
 allocate 0 0 4144
@@ -113,16 +118,19 @@ show 7 28 0\n
 
 /// The calls on a fresh userland image that is high-first: a lay out with records of 96
 /// bytes, and one with records of 100; the buffers at 4096, 4136 and 4176 granted with 10
-/// bytes, whole, and with 16, the most there is, after sizes of 0 and one too large; of the
-/// first, header, fill and the guard at 18; of the third, the redzone words, 0xbb before the
-/// rest of 0xfeedface and 251 x 24 + 1; four bytes stored at the client's first, and four that
-/// pass its last; where both clients' bytes start, and the bytes; the first given back by its
-/// coded size. Then its header is hurt, which every reader and call finds, and mended.
+/// bytes, whole, and with 16, the most there is, after sizes of 0 and one too large and both
+/// calls of thread 0; of the first, header, fill and the guard at 18; of the third, the
+/// redzone words, 0xbb before the rest of 0xfeedface and 251 x 24 + 1; four bytes stored at
+/// the client's first, and four that pass its last; where both clients' bytes start, and the
+/// bytes; the first given back by its coded size. Then its header is hurt, which every reader
+/// and call finds, and mended.
 const USERLAND_HIGH: &str = "\
 lay out 3 0 0
 lay out 0 0 0
 allocate 6 0 0
 allocate 6 0 0
+allocate 13 0 0
+free 13 0 0
 allocate 0 0 4096\n 00 00 00 12 3a 10 bf ee ba dd ca fe ba dd ca fe ba dd bb fe
 allocate 0 0 4136
 allocate 0 0 4176\n bb ed fa ce 00 00 17 89
@@ -139,6 +147,8 @@ lay out 3 0 0
 lay out 0 0 0
 allocate 6 0 0
 allocate 6 0 0
+allocate 13 0 0
+free 13 0 0
 allocate 0 0 4096\n 12 00 00 00 ee bf 10 3a fe ca dd ba fe ca dd ba fe ca bb ba
 allocate 0 0 4136
 allocate 0 0 4176\n bb fa ed fe 89 17 00 00

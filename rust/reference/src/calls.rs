@@ -91,6 +91,22 @@ struct Pair {
     buffer: usize,
 }
 
+/// The areas of an allocate or a free by a thread. "Allocate and free now refuse a
+/// thread word of 0 with number 13, after 3 and before every other test of those calls."
+fn areas_for_thread<'a>(
+    profile: Profile,
+    sheet: &[u8],
+    heap: &'a [u8],
+    records: &'a [u8],
+    thread: u32,
+) -> Result<Areas<'a>, Refusal> {
+    let areas = Areas::read(profile, sheet, heap, records)?;
+    if thread == 0 {
+        return Err(Refusal::plain(13));
+    }
+    Ok(areas)
+}
+
 /// "Allocate takes the head record, answers its buffer's address, and the head
 /// becomes its next word." "A granted record's next word stays."
 pub fn allocate(
@@ -102,7 +118,7 @@ pub fn allocate(
     uptime: u32,
     thread: u32,
 ) -> Result<u32, Refusal> {
-    let areas = Areas::read(profile, sheet, heap, records)?;
+    let areas = areas_for_thread(profile, sheet, heap, records, thread)?;
     let Pair { record, buffer } = free_head(&areas, grant)?;
     let order = areas.sheet.order;
     let head = areas.sheet.head;
@@ -162,7 +178,7 @@ pub fn free(
     uptime: u32,
     thread: u32,
 ) -> Result<(), Refusal> {
-    let areas = Areas::read(profile, sheet, heap, records)?;
+    let areas = areas_for_thread(profile, sheet, heap, records, thread)?;
     let (Pair { record, buffer }, granted) = granted_buffer(&areas, address)?;
     if grant != granted {
         return Err(Refusal::plain(9));

@@ -103,6 +103,8 @@ uint64_t plain_allocate(uint8_t *sheet, size_t sheet_length,
     uint64_t refusal = open_image(&image, sheet, sheet_length, heap_length, records_length);
     if (refusal != 0)
         return refusal;
+    if (thread == 0)
+        return NO_THREAD;
     if (!whole && (size < 1 || size > image.size))
         return BAD_SIZE;
     if (image.head == 0)
@@ -180,6 +182,8 @@ uint64_t plain_free(uint8_t *sheet, size_t sheet_length,
     uint64_t refusal = open_image(&image, sheet, sheet_length, heap_length, records_length);
     if (refusal != 0)
         return refusal;
+    if (thread == 0)
+        return NO_THREAD;
     uint32_t buffer_at = address - image.heap_base;
     if (!is_part(buffer_at, heap_length_of(&image), image.chunk_size))
         return NO_SUCH_BUFFER;

@@ -77,7 +77,8 @@ enum {
     NOT_ALLOCATED = 8,
     OTHER_GRANT = 9,
     SHORT_OUTPUT = 11,
-    WIDE_STAMP = 12
+    WIDE_STAMP = 12,
+    NO_THREAD = 13
 };
 
 /* Verdicts, and what else is a detail of DAMAGE. */

@@ -11,7 +11,7 @@ use Rattle.free.proofs.free.Tie as tie
 -- the buffer is held
 known : (c : tie.After-planned2) → let a = c .before .before .before .before .before .before .before .before .before .args in
     HeldAt (a .profile) (lent (a .sheet) (a .heap) (a .records)) (a .address) (c .planned2 .given .0 .0)
-known c = free-known _ _ _ _ _ (sym (c .before .before .plan .ensures) ∙ c .planned2 .given .1)
+known c = free-known _ _ _ _ _ _ (sym (c .before .before .plan .ensures) ∙ c .planned2 .given .1)
 
 returns-2 : tie.Need-returns-2
 unfolding freeOf

@@ -24,6 +24,9 @@ pub enum Met {
     Accepted(&'static str),
     /// A call that was refused, with the refusal's number and detail.
     Refused(&'static str, u8, u8),
+    /// A call of thread 0, with the refusal's number and detail that any other thread is
+    /// given instead, both 0 where that is accepted.
+    Nobody(&'static str, u8, u8),
     /// What a list of calls came to, or how arguments and rooms were drawn.
     Drawn(&'static str),
 }
@@ -91,6 +94,10 @@ impl Display for Met {
             Met::Refused(call, number, 0) => write!(out, "{call} refused {number}"),
             Met::Refused(call, number, detail) => {
                 write!(out, "{call} refused {number}/{detail}")
+            }
+            Met::Nobody(call, 0, 0) => write!(out, "{call} of thread 0, else accepted"),
+            Met::Nobody(call, number, detail) => {
+                write!(out, "{call} of thread 0, else refused {number}/{detail}")
             }
             Met::Drawn(what) => write!(out, "drawn: {what}"),
         }

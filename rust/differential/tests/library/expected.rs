@@ -55,6 +55,7 @@ pub fn expected_refusal(refusal: reference::Refusal) -> Refusal {
         (10, 0) => Refusal::PastClient,
         (11, 0) => Refusal::ShortOutput,
         (12, 0) => Refusal::WideStamp,
+        (13, 0) => Refusal::NoThread,
         _ => panic!("no call is refused so by the rules: {refusal:?}"),
     }
 }

@@ -4,7 +4,7 @@
 use crate::image::*;
 use reference::{allocate, Grant, Refusal};
 
-fn call(image: &mut Image, grant: Grant) -> Result<u32, Refusal> {
+fn call_by(thread: u32, image: &mut Image, grant: Grant) -> Result<u32, Refusal> {
     allocate(
         image.form.profile(),
         &mut image.sheet,
@@ -12,14 +12,27 @@ fn call(image: &mut Image, grant: Grant) -> Result<u32, Refusal> {
         &mut image.records,
         grant,
         UPTIME,
-        THREAD_WORD,
+        thread,
     )
 }
 
-/// Expects a refusal of the call that leaves every byte.
+fn call(image: &mut Image, grant: Grant) -> Result<u32, Refusal> {
+    call_by(THREAD_WORD, image, grant)
+}
+
+/// Expects a refusal of the call that leaves every byte, and refusal 13 "before every
+/// other test" of the same call by thread 0.
 fn refuses(mut image: Image, grant: Grant, refusal: Result<u32, Refusal>) {
     let before = image.clone();
     assert_eq!(call(&mut image, grant), refusal);
+    assert_eq!(image, before);
+    refuses_thread_0(image, grant);
+}
+
+/// Expects refusal 13 of the call by thread 0 that leaves every byte.
+fn refuses_thread_0(mut image: Image, grant: Grant) {
+    let before = image.clone();
+    assert_eq!(call_by(0, &mut image, grant), refused(13));
     assert_eq!(image, before);
 }
 
@@ -169,6 +182,60 @@ fn p12_fourth_allocate_in_a_fresh_heap_of_three() {
         let largest = Grant::Sized(form.of(24, 16));
         assert_eq!(call(&mut image, largest), Ok(BUFFER_2));
         refuses(image, Grant::Sized(1), refused(5));
+    }
+}
+
+#[test]
+fn refusal_13_thread_0() {
+    for form in FORMS {
+        for grant in [Grant::Whole, Grant::Sized(1), Grant::Sized(full_size(form))] {
+            refuses_thread_0(dump(form), grant);
+            let mut image = dump(form);
+            assert_eq!(call(&mut image, grant), Ok(BUFFER_0));
+        }
+    }
+}
+
+/// Each other refusal of the call, given to another thread and not to thread 0.
+#[test]
+fn refusal_13_comes_before_every_other() {
+    for form in FORMS {
+        refuses(dump(form), Grant::Sized(0), refused(6));
+        refuses(dump(form), Grant::Sized(full_size(form) + 1), refused(6));
+        refuses(dump_with_head(form, 0), Grant::Sized(0), refused(6));
+        refuses(dump_with_head(form, 0), Grant::Sized(1), refused(5));
+        refuses(dump_with_head(form, 0), Grant::Whole, refused(5));
+        refuses(dump_with_head(form, 1), Grant::Whole, damaged(29));
+
+        let mut image = dump(form);
+        image.put_record(form.place(2) + ADDRESS, 0);
+        refuses(image, Grant::Whole, damaged(20));
+
+        let allocated_head = dump_with_head(form, form.record(1));
+        refuses(allocated_head, Grant::Whole, damaged(24));
+
+        for (at, detail) in [(T0, 21), (T1, 21), (0, 25), (R0, 26), (R1, 26)] {
+            let mut image = dump(form);
+            image.put_heap(CHUNK[0] + at, 0);
+            refuses(image, Grant::Whole, damaged(detail));
+        }
+    }
+}
+
+#[test]
+fn any_other_thread_is_written() {
+    for form in FORMS {
+        for thread in THREADS {
+            for old_thread in [0, thread] {
+                let mut image = dump(form);
+                image.put_record(form.place(2) + THREAD, old_thread);
+                let mut expected = image.clone();
+                assert_eq!(call_by(thread, &mut image, Grant::Whole), Ok(BUFFER_0));
+                assert_eq!(call(&mut expected, Grant::Whole), Ok(BUFFER_0));
+                expected.put_record(form.place(2) + THREAD, thread);
+                assert_eq!(image, expected, "{thread:x}");
+            }
+        }
     }
 }
 

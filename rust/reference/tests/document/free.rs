@@ -4,7 +4,7 @@
 use crate::image::*;
 use reference::{free, Grant, Refusal};
 
-fn call(image: &mut Image, address: u32, grant: Grant) -> Result<(), Refusal> {
+fn call_by(thread: u32, image: &mut Image, address: u32, grant: Grant) -> Result<(), Refusal> {
     free(
         image.form.profile(),
         &mut image.sheet,
@@ -13,14 +13,27 @@ fn call(image: &mut Image, address: u32, grant: Grant) -> Result<(), Refusal> {
         address,
         grant,
         UPTIME,
-        THREAD_WORD,
+        thread,
     )
 }
 
-/// Expects a refusal of the call that leaves every byte.
+fn call(image: &mut Image, address: u32, grant: Grant) -> Result<(), Refusal> {
+    call_by(THREAD_WORD, image, address, grant)
+}
+
+/// Expects a refusal of the call that leaves every byte, and refusal 13 "before every
+/// other test" of the same call by thread 0.
 fn refuses(mut image: Image, address: u32, grant: Grant, refusal: Result<(), Refusal>) {
     let before = image.clone();
     assert_eq!(call(&mut image, address, grant), refusal);
+    assert_eq!(image, before);
+    refuses_thread_0(image, address, grant);
+}
+
+/// Expects refusal 13 of the call by thread 0 that leaves every byte.
+fn refuses_thread_0(mut image: Image, address: u32, grant: Grant) {
+    let before = image.clone();
+    assert_eq!(call_by(0, &mut image, address, grant), refused(13));
     assert_eq!(image, before);
 }
 
@@ -83,6 +96,64 @@ fn old_head_goes_into_next_whatever_it_is() {
                 Ok(())
             );
             assert_eq!(image, freed(form, head));
+        }
+    }
+}
+
+#[test]
+fn refusal_13_thread_0() {
+    for form in FORMS {
+        refuses_thread_0(dump(form), BUFFER_1, Grant::Sized(dump_size(form)));
+        refuses_thread_0(dump_full(form), BUFFER_1, Grant::Sized(full_size(form)));
+        refuses_thread_0(dump_whole(form), BUFFER_1, Grant::Whole);
+    }
+}
+
+/// Each other refusal of the call, given to another thread and not to thread 0.
+#[test]
+fn refusal_13_comes_before_every_other() {
+    for form in FORMS {
+        let grant = Grant::Sized(dump_size(form));
+        refuses(dump(form), BUFFER_1 + 1, grant, refused(4));
+        refuses(dump(form), 0, grant, refused(4));
+        refuses(dump(form), BUFFER_0, grant, refused(8));
+        refuses(dump(form), BUFFER_1, Grant::Whole, refused(9));
+        refuses(dump(form), BUFFER_1, Grant::Sized(0), refused(9));
+
+        let mut image = dump(form);
+        image.put_record(form.place(1) + ADDRESS, 0);
+        refuses(image, BUFFER_1, grant, damaged(21));
+
+        // The guard stands at 20.
+        for (at, detail) in [(T0, 21), (T1, 21), (R1, 27), (20, 28), (R0, 28)] {
+            let mut image = dump(form);
+            image.put_heap(CHUNK[1] + at, 0);
+            refuses(image, BUFFER_1, grant, damaged(detail));
+        }
+    }
+    for form in USER_FORMS {
+        let grant = Grant::Sized(dump_size(form));
+        for at in [0, 4] {
+            let mut image = dump(form);
+            image.put_heap(CHUNK[1] + at, 0);
+            refuses(image, BUFFER_1, grant, damaged(30));
+        }
+    }
+}
+
+#[test]
+fn any_other_thread_is_written() {
+    for form in FORMS {
+        for thread in THREADS {
+            for old_thread in [0, thread] {
+                let mut image = dump_whole(form);
+                image.put_record(form.place(1) + THREAD, old_thread);
+                let mut expected = freed(form, form.record(2));
+                expected.put_record(form.place(1) + THREAD, thread);
+                let answer = call_by(thread, &mut image, BUFFER_1, Grant::Whole);
+                assert_eq!(answer, Ok(()), "{thread:x}");
+                assert_eq!(image, expected, "{thread:x}");
+            }
         }
     }
 }

@@ -137,6 +137,18 @@ impl Form {
 pub const UPTIME: u32 = 0x1122_3344;
 pub const THREAD_WORD: u32 = 0x5566_7788;
 
+/// Thread words that are not 0: the smallest, the largest, and such with 0 in all bytes
+/// but one.
+pub const THREADS: [u32; 7] = [
+    1,
+    0xff,
+    0x100,
+    0x1_0000,
+    0x100_0000,
+    0x8000_0000,
+    0xffff_ffff,
+];
+
 /// The sheet, but for the head's bytes.
 #[rustfmt::skip]
 const DUMP_SHEET: [u8; 48] = [

@@ -1,7 +1,7 @@
 //! Inputs drawn from a fixed sequence: no call panics, and a refused call changes no
 //! byte.
 
-use crate::image::{dump, put_sheet, Image, FORMS};
+use crate::image::{dump, put_sheet, refused, Image, FORMS};
 use reference::*;
 
 /// A fixed sequence of numbers.
@@ -126,6 +126,46 @@ fn a_changing_call_refuses_or_changes_but_not_both() {
         refusals += usize::from(answer.is_err());
     }
     assert!((1_000..19_000).contains(&refusals), "{refusals}");
+}
+
+/// "After 3 and before every other test of those calls": thread 0 is refused with 1, 2
+/// or 3 just where another thread is, and else with 13.
+#[test]
+fn thread_0_is_refused_with_1_2_3_or_13() {
+    let mut sequence = Sequence::new(14);
+    let mut thirteens = 0;
+    for _ in 0..20_000 {
+        let before = some_image(&mut sequence);
+        let grant = some_grant(&mut sequence);
+        let address = some_word(&mut sequence);
+        let is_free = sequence.below(2) == 0;
+        let call_by = |thread, image: &mut Image| {
+            let Image {
+                sheet,
+                heap,
+                records,
+                form,
+            } = image;
+            let profile = form.profile();
+            if is_free {
+                free(profile, sheet, heap, records, address, grant, 1, thread)
+            } else {
+                allocate(profile, sheet, heap, records, grant, 1, thread).map(|_| ())
+            }
+        };
+        let mut image = before.clone();
+        let by_nobody = call_by(0, &mut image);
+        assert_eq!(image, before);
+        let by_another = call_by(1, &mut image);
+        match by_another {
+            Err(Refusal { number: 1..=3, .. }) => assert_eq!(by_nobody, by_another),
+            _ => {
+                assert_eq!(by_nobody, refused(13));
+                thirteens += 1;
+            }
+        }
+    }
+    assert!((10_000..20_000).contains(&thirteens), "{thirteens}");
 }
 
 #[test]

@@ -9,16 +9,21 @@ const HEAP_BASE: u32 = 0x1000;
 const RECORD_BASE: u32 = 0x2_0000;
 
 /// What is out: "its grant" and "its client bytes".
-#[derive(Clone)]
+#[derive(Clone, PartialEq, Debug)]
 struct Out {
     grant: Grant,
     client: Vec<u8>,
 }
 
-/// A heap, its ledger and the buffer size and count it was laid out with.
+/// A heap, its ledger and the buffer size and count it was laid out with. The ledger is
+/// what is out and "how many calls were accepted": allocates, frees and stores.
+#[derive(PartialEq, Debug)]
 struct Heap {
     image: Image,
     out: Vec<Option<Out>>,
+    allocates: usize,
+    frees: usize,
+    stores: usize,
     size: u32,
     count: u32,
 }
@@ -30,6 +35,9 @@ impl Heap {
         Heap {
             image,
             out,
+            allocates: 0,
+            frees: 0,
+            stores: 0,
             size,
             count,
         }
@@ -62,6 +70,7 @@ impl Heap {
         let fill = form.pick([0xba, 0xdd, 0xca, 0xfe], [0xfe, 0xca, 0xdd, 0xba]);
         let client = fill.into_iter().cycle().take(length as usize).collect();
         self.out[index] = Some(Out { grant, client });
+        self.allocates += 1;
     }
 
     fn free(&mut self, index: usize, grant: Grant) {
@@ -81,6 +90,7 @@ impl Heap {
             Some(_) => {
                 assert_eq!(answer, Ok(()));
                 self.out[index] = None;
+                self.frees += 1;
             }
         }
     }
@@ -110,6 +120,7 @@ impl Heap {
             Some(out) => {
                 assert_eq!(answer, Ok(()));
                 out.client[offset..offset + bytes.len()].copy_from_slice(bytes);
+                self.stores += 1;
             }
         }
     }
@@ -129,6 +140,25 @@ impl Heap {
         assert_eq!(self.image, before);
     }
 
+    /// "Such a call is a refused call": an allocate and a free by thread 0, whatever
+    /// they ask for and whether there is room or not.
+    fn ask_by_nobody(&mut self, index: usize, grant: Grant) {
+        let before = self.image.clone();
+        let address = self.address(index);
+        let Image {
+            form,
+            sheet,
+            heap,
+            records,
+        } = &mut self.image;
+        let profile = form.profile();
+        let allocated = allocate(profile, sheet, heap, records, grant, 5, 0);
+        assert_eq!(allocated, refused(13));
+        let freed = free(profile, sheet, heap, records, address, grant, 6, 0);
+        assert_eq!(freed, refused(13));
+        assert_eq!(self.image, before);
+    }
+
     /// Every buffer is found as the ledger has it, shows the stored bytes, and is
     /// met by the chain just when it is not out.
     fn check(&self) {
@@ -142,6 +172,9 @@ impl Heap {
         inspect(form.profile(), sheet, heap, records, &mut rows).unwrap();
         let chain = chain(form.profile(), sheet, heap, records).unwrap();
         assert_eq!(chain.ending, Ending::End);
+        let out = self.allocates - self.frees;
+        assert_eq!(self.out.iter().flatten().count(), out);
+        assert_eq!(chain.met.len(), self.count as usize - out);
         for (index, out) in self.out.iter().enumerate() {
             let verdict = rows[index].verdict;
             let found = (verdict.number(), verdict.value());
@@ -183,7 +216,15 @@ fn some_grant(sequence: &mut Sequence, largest: u32) -> Grant {
     }
 }
 
-fn run(form: Form, size: u32, count: u32, seed: u64) {
+/// A list of calls on a fresh heap, with something done between each call and the next,
+/// and the heap at its end.
+fn run_with(
+    form: Form,
+    size: u32,
+    count: u32,
+    seed: u64,
+    mut between: impl FnMut(&mut Heap),
+) -> Heap {
     let mut sequence = Sequence::new(seed);
     let mut heap = Heap::fresh(form, size, count);
     let largest = form.of(size, size - 8);
@@ -211,8 +252,29 @@ fn run(form: Form, size: u32, count: u32, seed: u64) {
                 heap.store(index, offset, &bytes);
             }
         }
+        between(&mut heap);
         heap.check();
     }
+    heap
+}
+
+/// The list of calls alone.
+fn run(form: Form, size: u32, count: u32, seed: u64) -> Heap {
+    run_with(form, size, count, seed, |_| {})
+}
+
+/// The same list with calls by thread 0 in between: of each buffer with its grant, where
+/// another thread's free would be accepted, and with any.
+fn run_with_nobody(form: Form, size: u32, count: u32, seed: u64) -> Heap {
+    let mut sequence = Sequence::new(seed + 100);
+    run_with(form, size, count, seed, |heap| {
+        for index in 0..count as usize {
+            let granted = heap.out[index].as_ref().map(|out| out.grant);
+            let any = Grant::Sized(sequence.below(size + 2));
+            heap.ask_by_nobody(index, granted.unwrap_or(Grant::Whole));
+            heap.ask_by_nobody(index, any);
+        }
+    })
 }
 
 #[test]
@@ -223,5 +285,18 @@ fn calls_agree_with_the_ledger() {
         run(form, 24, 3, 3);
         run(form, 120, 9, 4);
         run(form, 4096, 2, 5);
+    }
+}
+
+/// "A refused call changes nothing in the ledger": who is out, the bytes, the chain and
+/// the counts are as if thread 0 had not called.
+#[test]
+fn calls_by_thread_0_in_between_change_nothing() {
+    for form in LONG_FORMS {
+        for (size, count, seed) in [(8, 1, 6), (8, 5, 7), (24, 3, 8), (120, 9, 9)] {
+            let alone = run(form, size, count, seed);
+            assert!(alone.allocates > 20 && alone.frees > 20 && alone.stores > 0);
+            assert_eq!(run_with_nobody(form, size, count, seed), alone);
+        }
     }
 }

@@ -15,5 +15,6 @@ mod refusals;
 mod report;
 mod sheet;
 mod store_show;
+mod thread;
 mod userland;
 mod verdicts;

@@ -16,10 +16,11 @@ use crate::twin::Twin;
 const SEED: u64 = 0x1f94_e6a8;
 
 /// The refusals that allocate can give, by the rules.
-const ALLOCATE: [(u8, u8); 11] = [
+const ALLOCATE: [(u8, u8); 12] = [
     (1, 0),
     (2, 0),
     (3, 0),
+    (13, 0),
     (6, 0),
     (5, 0),
     (7, 29),
@@ -31,10 +32,11 @@ const ALLOCATE: [(u8, u8); 11] = [
 ];
 
 /// And free.
-const FREE: [(u8, u8); 9] = [
+const FREE: [(u8, u8); 10] = [
     (1, 0),
     (2, 0),
     (3, 0),
+    (13, 0),
     (4, 0),
     (7, 21),
     (8, 0),
@@ -80,6 +82,11 @@ fn free(address: u32, grant: Grant) -> Call {
         uptime: 0x99aa_bbcc,
         thread: 0xddee_ff00,
     }
+}
+
+/// The same call of thread 0.
+fn nobody(call: Call) -> Call {
+    Call { thread: 0, ..call }
 }
 
 /// Makes calls on an image, one after the other.
@@ -142,8 +149,8 @@ fn lists_on_fresh_heaps() {
         }
     }
     let wanted = ["allocate", "free"].map(accepted).into_iter();
-    let wanted = wanted.chain(refusals("allocate", &[(6, 0), (5, 0)]));
-    let wanted = wanted.chain(refusals("free", &[(4, 0), (8, 0), (9, 0)]));
+    let wanted = wanted.chain(refusals("allocate", &[(13, 0), (6, 0), (5, 0)]));
+    let wanted = wanted.chain(refusals("free", &[(13, 0), (4, 0), (8, 0), (9, 0)]));
     let wanted = wanted.chain(EXTREMES.map(extreme));
     counts.finish("calls, lists on fresh heaps", SEED, wanted);
 }
@@ -171,6 +178,8 @@ fn neighbours_of_the_dump() {
     let mut counts = Counts::default();
     let mut sequence = Sequence::new(SEED);
     let calls = [
+        nobody(free(BUFFER, Grant::Sized(20))),
+        nobody(allocate(Grant::Sized(9))),
         free(BUFFER, Grant::Sized(20)),
         free(BUFFER, Grant::Whole),
         free(BUFFER, Grant::Sized(24)),
@@ -230,6 +239,8 @@ fn every_length() {
     let mut counts = Counts::default();
     let mut sequence = Sequence::new(SEED);
     let calls = [
+        nobody(allocate(Grant::Sized(0))),
+        nobody(free(BUFFER + 8, Grant::Whole)),
         allocate(Grant::Sized(0)),
         allocate(Grant::Whole),
         free(BUFFER + 8, Grant::Whole),
@@ -237,7 +248,7 @@ fn every_length() {
     ];
     each_length(|image| run_all(image, calls, image, &mut counts, &mut sequence));
     let wanted = ["allocate", "free"].map(accepted).into_iter();
-    let wanted = wanted.chain(refusals("allocate", &[(1, 0), (3, 0), (6, 0)]));
-    let wanted = wanted.chain(refusals("free", &[(1, 0), (3, 0), (4, 0)]));
+    let wanted = wanted.chain(refusals("allocate", &[(1, 0), (3, 0), (13, 0), (6, 0)]));
+    let wanted = wanted.chain(refusals("free", &[(1, 0), (3, 0), (13, 0), (4, 0)]));
     counts.finish("calls, every length", SEED, wanted);
 }

@@ -74,8 +74,15 @@ pub fn some_call(image: &Image, eagerness: usize, sequence: &mut Sequence) -> Ca
         address,
         grant,
         uptime: sequence.pick(&[image.times[0], image.times[1], 0, u32::MAX, any]),
-        thread: sequence.word(),
+        thread: some_thread(sequence),
     }
+}
+
+/// Any thread, now and then 0, which is nobody, or one that would be 0 if fewer of its
+/// bits were read.
+fn some_thread(sequence: &mut Sequence) -> u32 {
+    let any = sequence.word();
+    sequence.pick(&[any, any, any, any, 0, 1, 0x100, 0x1_0000, 0x8000_0000])
 }
 
 /// Whole, a lawful size, and now and then an unlawful one: 0, one too large, and sizes

@@ -17,7 +17,7 @@ written c = c .before .before .before .before .before .before .before
 -- what is known of the buffer that the plan takes
 taken : (c : tie.After-planned2) → let a = start (c .before .before) .args in
     byLengths Takes (lent (a .sheet) (a .heap) (a .records)) (a .grant) (c .planned2 .given .0 .0)
-taken c = taken-known _ _ _ _ (sym (c .before .before .plan .ensures) ∙ c .planned2 .given .1)
+taken c = taken-known _ _ _ _ _ (sym (c .before .before .plan .ensures) ∙ c .planned2 .given .1)
 
 buffer-address-requires : tie.Need-buffer-address-requires
 buffer-address-requires c κs = let k = taken (written c .before .before .before .before .before) .within in (k .opened .law, k .buffer)

@@ -104,6 +104,18 @@ impl Call {
         }
     }
 
+    /// The same call of another thread, where it is one of thread 0.
+    pub fn by_somebody(&self) -> Option<Call> {
+        let mut call = self.clone();
+        match &mut call {
+            Call::Allocate { thread, .. } | Call::Free { thread, .. } if *thread == 0 => {
+                *thread = 1;
+                Some(call)
+            }
+            _ => None,
+        }
+    }
+
     /// What a store is lent to write; every other call is lent nothing.
     pub fn bytes(&self) -> &[u8] {
         match self {

@@ -26,7 +26,7 @@ fn some_allocate(image: &Image, sequence: &mut Sequence) -> Call {
     Call::Allocate {
         grant: some_grant(image, sequence),
         uptime: some_uptime(image, sequence),
-        thread: sequence.word(),
+        thread: some_thread(sequence),
     }
 }
 
@@ -62,6 +62,17 @@ fn some_uptime(image: &Image, sequence: &mut Sequence) -> u32 {
     sequence.pick(&[image.times[0], image.times[1], 0, u32::MAX, any])
 }
 
+/// Any thread, now and then 0, which is nobody, or one that would be 0 if fewer of its
+/// bits were read.
+fn some_thread(sequence: &mut Sequence) -> u32 {
+    let any = sequence.word();
+    match sequence.below(8) {
+        0 => 0,
+        1 => sequence.pick(&[1, 0x100, 0x1_0000, 0x100_0000, 0x8000_0000, u32::MAX]),
+        _ => any,
+    }
+}
+
 fn some_free(image: &Image, sequence: &mut Sequence) -> Call {
     let buffer = sequence.below(image.shape.count);
     let granted = of_library(image.told_grant(buffer));
@@ -79,7 +90,7 @@ fn some_free(image: &Image, sequence: &mut Sequence) -> Call {
         address: near_buffer(image, buffer, sequence),
         grant,
         uptime: some_uptime(image, sequence),
-        thread: sequence.word(),
+        thread: some_thread(sequence),
     }
 }
 

@@ -1,6 +1,6 @@
 //! Calls on the dump: on every neighbour of it, and with every small number.
 
-use combgallop::Grant;
+use combgallop::{Grant, Refusal};
 use differential::neighbours::each_small_size_code;
 use differential::samples::{dump, dump_request};
 use differential::{Form, Image, Sequence, FORMS};
@@ -53,6 +53,15 @@ fn free(grant: Grant) -> Call {
     }
 }
 
+/// The same call of another thread.
+fn by(new: u32, mut call: Call) -> Call {
+    match &mut call {
+        Call::Allocate { thread, .. } | Call::Free { thread, .. } => *thread = new,
+        _ => panic!("{call:?} has no thread"),
+    }
+    call
+}
+
 fn store(offset: u32, length: usize) -> Call {
     Call::Store {
         address: BUFFER,
@@ -65,10 +74,12 @@ fn show(address: u32) -> Call {
     Call::Show { address }
 }
 
-/// A few calls, one after the other. The allocates take every buffer in turn, the freed
-/// one first, and then there is none.
-fn some_of_each(grant: Grant, largest: Grant) -> [Call; 9] {
+/// A few calls, one after the other: first those of thread 0, which change nothing. The
+/// allocates take every buffer in turn, the freed one first, and then there is none.
+fn some_of_each(grant: Grant, largest: Grant) -> [Call; 11] {
     [
+        by(0, free(grant)),
+        by(0, allocate(largest)),
         show(BUFFER - STEP),
         show(BUFFER),
         show(BUFFER + STEP),
@@ -168,6 +179,31 @@ fn every_pair_of_grants() {
         Met::Refused("free", 9, 0),
     ];
     counts.finish("calls, every pair of grants", SEED, &wanted);
+}
+
+/// Threads with one bit each, next to them and to 0, and 0 itself: only that is refused.
+#[test]
+fn every_thread_of_one_bit() {
+    let mut sequence = Sequence::new(SEED);
+    let mut counts = Counts::default();
+    let bits = (0..32).map(|bit| 1u32 << bit);
+    let threads: Vec<u32> = bits.flat_map(|bit| [bit, bit - 1, !bit]).collect();
+    for image in FORMS.map(dump) {
+        let grant = Grant::Sized(dump_request(image.form));
+        for &thread in &threads {
+            let mut twin = Twin::new(image.clone(), &"the dump", &mut sequence);
+            for call in [by(thread, free(grant)), by(thread, allocate(Grant::Whole))] {
+                let outcome = twin.run(&call, &mut counts, &mut sequence);
+                let expected = (thread == 0).then_some(Refusal::NoThread);
+                assert_eq!(outcome.err(), expected, "thread {thread:#x}");
+            }
+        }
+    }
+    let wanted = ["allocate", "free"].map(|call| {
+        let refused = Met::Refused(call, 13, 0);
+        [Met::Accepted(call), refused, Met::Nobody(call, 0, 0)]
+    });
+    counts.finish("calls, every thread of one bit", SEED, &wanted.concat());
 }
 
 /// For every grant, every store of few bytes at every small offset and near 2^32.

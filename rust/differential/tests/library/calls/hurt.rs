@@ -5,7 +5,7 @@ use differential::{Case, Sequence, LONG_FORMS, PROFILES};
 
 use super::draw::{some_call, some_lay_out};
 use super::twin::Twin;
-use super::{answers, header_answers};
+use super::{answers, header_answers, nobody};
 use crate::counts::{Counts, Met};
 
 const CASES: u64 = 40_000;
@@ -53,8 +53,10 @@ fn calls_on_hurt_images() {
     let hurts = HURTS.iter().chain(&HEAD_HURTS);
     let hurts: Vec<Met> = hurts.map(|&(name, _)| Met::Hurt(name)).collect();
     let calls = ["allocate", "free", "store", "show"];
-    let wanted = [calls.map(answers).concat(), hurts].concat();
+    let nobodys = ["allocate", "free"].map(nobody).concat();
+    let wanted = [calls.map(answers).concat(), nobodys, hurts].concat();
+    let in_userland = [header_answers(), vec![Met::Nobody("free", 7, 30)]].concat();
     let title = "calls, hurt images";
-    counts.finish_with(title, SEED, &wanted, &header_answers());
+    counts.finish_with(title, SEED, &wanted, &in_userland);
     counts.want(&LONG_FORMS, title, &answers("lay out"));
 }

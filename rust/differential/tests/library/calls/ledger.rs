@@ -84,6 +84,9 @@ impl Ledger {
     fn refusal(&self, call: &Call) -> Option<Refusal> {
         match call {
             Call::LayOut(_) => None,
+            Call::Allocate { thread: 0, .. } | Call::Free { thread: 0, .. } => {
+                Some(Refusal::NoThread)
+            }
             Call::Allocate { grant, .. } if !self.is_lawful(*grant) => Some(Refusal::BadSize),
             Call::Allocate { .. } => self.is_full().then_some(Refusal::NoRoom),
             Call::Free { address, .. }

@@ -23,11 +23,20 @@ const LAY_OUTS: [Met; 4] = [
 ];
 
 /// The answers that the other calls of a list without damage can get.
-const WANTED: [Met; 14] = [
+const WANTED: [Met; 23] = [
     Met::Accepted("allocate"),
+    Met::Refused("allocate", 13, 0),
+    Met::Nobody("allocate", 0, 0),
+    Met::Nobody("allocate", 6, 0),
+    Met::Nobody("allocate", 5, 0),
     Met::Refused("allocate", 6, 0),
     Met::Refused("allocate", 5, 0),
     Met::Accepted("free"),
+    Met::Refused("free", 13, 0),
+    Met::Nobody("free", 0, 0),
+    Met::Nobody("free", 4, 0),
+    Met::Nobody("free", 8, 0),
+    Met::Nobody("free", 9, 0),
     Met::Refused("free", 4, 0),
     Met::Refused("free", 8, 0),
     Met::Refused("free", 9, 0),

@@ -84,6 +84,8 @@ impl<'a> Twin<'a> {
     ) -> Result<u32, Refusal> {
         self.story.steps.push(Step::Call(call.clone()));
         let profile = call.profile(&self.image);
+        let by_somebody = call.by_somebody();
+        let by_somebody = by_somebody.map(|other| other.by_reference(&mut self.image.clone()));
         let expected = call.by_reference(&mut self.image);
         let bytes = Guarded::new(call.bytes(), sequence);
         let outcome = if sequence.once_in(4) {
@@ -108,7 +110,33 @@ impl<'a> Twin<'a> {
             _ => {}
         }
         self.note(call, outcome, counts);
+        if let Some(other) = by_somebody {
+            self.compare_nobody(call, outcome, other, counts);
+        }
         outcome
+    }
+
+    /// "After 3 and before every other test": thread 0 is refused with 1, 2 or 3 just where
+    /// another thread is, and else with 13, whatever the other is answered.
+    fn compare_nobody(
+        &self,
+        call: &Call,
+        outcome: Result<u32, Refusal>,
+        other: Result<Accepted, reference::Refusal>,
+        counts: &mut Counts,
+    ) {
+        let (number, detail) = match other {
+            Ok(_) => (0, 0),
+            Err(refusal) => (refusal.number, refusal.detail),
+        };
+        let expected = match number {
+            1..=3 => number,
+            _ => 13,
+        };
+        let outcome = outcome.map_err(Refusal::number);
+        assert_eq!(outcome, Err(expected), "thread 0: {}", self.story);
+        let met = Met::Nobody(call.name(), number, detail);
+        counts.note(self.image.read_form(), met);
     }
 
     /// Notes an outcome: that of a lay out under the form asked for, and any other under
