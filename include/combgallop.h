@@ -89,21 +89,27 @@ enum {
     CG_REPORT_MOST = 65535
 };
 
-/* Verdicts: what is found of a buffer. The first rule that holds gives the verdict. */
+/*
+ * Verdicts: what is found of a buffer. The first rule that holds gives the verdict, in the
+ * order of the numbers, but that all three of the size code come before CG_OVERRUN. Under
+ * the userland profile they speak of the coded size.
+ */
 enum {
     CG_FREE = 0,
-    CG_WHOLE = 1,           /* allocated, the whole buffer */
-    CG_ALLOCATED = 2,       /* allocated, with the size that was asked for */
-    CG_NOT_ONE_RECORD = 20, /* not exactly one record names the buffer; faults from here on */
-    CG_BAD_TAG = 21,        /* the tag names another record, or has neither pattern */
-    CG_FREED_TWICE = 22,    /* the chain comes back to its record */
-    CG_OFF_CHAIN = 23,      /* free, but not on the chain */
-    CG_ON_CHAIN = 24,       /* allocated, but on the chain */
-    CG_BAD_FILL = 25,       /* written to after it was freed, with the first offset */
-    CG_BAD_REDZONE = 26,    /* redzone of a free buffer written to, with the first offset */
-    CG_BAD_SIZE_CODE = 27,  /* the size code is none */
-    CG_OVERRUN = 28,        /* written past its end, with the first offset */
-    CG_BAD_HEADER = 30      /* the header of a sized userland grant is wrong */
+    CG_WHOLE = 1,                /* allocated, the whole buffer */
+    CG_ALLOCATED = 2,            /* allocated, with the size that was asked for */
+    CG_NOT_ONE_RECORD = 20,      /* not exactly one record names the buffer; from here on faults */
+    CG_BAD_TAG = 21,             /* the tag names another record, or has neither pattern */
+    CG_FREED_TWICE = 22,         /* the chain comes back to its record */
+    CG_OFF_CHAIN = 23,           /* free, but not on the chain */
+    CG_ON_CHAIN = 24,            /* allocated, but on the chain */
+    CG_BAD_FILL = 25,            /* written to after it was freed, with the first offset */
+    CG_BAD_REDZONE = 26,         /* redzone of a free buffer written to, with the first offset */
+    CG_SIZE_CODE_REMAINDER = 27, /* the size code is none: its remainder by 251 is not 1 */
+    CG_OVERRUN = 28,             /* written past its end, with the first offset */
+    CG_BAD_HEADER = 30,          /* the header of a sized userland grant is wrong */
+    CG_SIZE_CODE_ZERO = 31,      /* the size code is that of size 0 */
+    CG_SIZE_CODE_ABOVE = 32      /* the size code is that of a size above the buffer size */
 };
 
 /* Refusals: why a call was not carried out. */
@@ -274,9 +280,9 @@ uint64_t cg_allocate(bool userland,
  * Value: 0.
  * Refusals: 1, 2, 3; 13 when thread is 0; 4 when no buffer starts at the address; 7 with
  * detail 21 when the buffer's tag names no record or one that names another buffer, or has
- * neither pattern; 8 when the buffer is free; 7 when its size code is none (27), its guard
- * byte or redzone is hurt (28), or under the userland profile its header is wrong (30);
- * 9 when it was granted otherwise.
+ * neither pattern; 8 when the buffer is free; 7 when its size code is none (27), or that of
+ * size 0 (31) or of one above the buffer size (32), its guard byte or redzone is hurt (28),
+ * or under the userland profile its header is wrong (30); 9 when it was granted otherwise.
  */
 uint64_t cg_free(bool userland,
                  uint8_t *sheet, size_t sheet_length,

@@ -23,6 +23,7 @@ use chunks::chunk::Grant;
 use sheet::fields;
 use tags::format::Format;
 use tags::format::Profile;
+use words::word;
 use words::word::Order;
 
 // The calls, each with its line.
@@ -49,6 +50,9 @@ const THIRD: u32 = HEAP + 80;
 
 // The first buffer is granted with a coded size of 20 bytes, so its guard byte stands behind them.
 const GUARD: usize = 20;
+
+// R1 of the first buffer, which holds the code of that size.
+const CODE: usize = 28;
 
 // The requests whose coded sizes are 20 and 24, the buffer's.
 fn some(p: Profile) -> Grant {
@@ -241,6 +245,22 @@ fn hurt_image(p: Profile, sheet: &mut SheetArea, heap: &mut HeapArea, records: &
     use_hurt(p, sheet, heap, records);
 }
 
+// It is hurt at the size code, by what is written over that.
+fn hurt_code(f: Format, sheet: &mut SheetArea, heap: &mut HeapArea, records: &mut [u8], code: u32) {
+    let p = f.profile;
+    let o = f.order;
+    word::write_u32(o, heap, CODE, code);
+    show_hurt(p, sheet, heap, records);
+    use_hurt(p, sheet, heap, records);
+}
+
+// A wrong remainder, the code of size zero, and the least one above the buffer's size.
+fn hurt_codes(f: Format, sheet: &mut SheetArea, heap: &mut HeapArea, records: &mut [u8]) {
+    hurt_code(f, sheet, heap, records, 251 * 20 + 2);
+    hurt_code(f, sheet, heap, records, 1);
+    hurt_code(f, sheet, heap, records, 251 * 25 + 1);
+}
+
 // All of it, on an image of a format whose records have these bytes.
 fn trace(f: Format, records: &mut [u8]) {
     let p = f.profile;
@@ -249,6 +269,7 @@ fn trace(f: Format, records: &mut [u8]) {
     use_image(f, &mut sheet, &mut heap, records);
     ask_image(f, &sheet, &heap, records);
     hurt_image(p, &mut sheet, &mut heap, records);
+    hurt_codes(f, &mut sheet, &mut heap, records);
 }
 
 // The kernel's records have 96 bytes each, and userland's 100.

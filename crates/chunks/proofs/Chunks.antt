@@ -20,6 +20,7 @@ use Rattle.tags.specs.Format.{wordBytes}
 use Rattle.tags.specs.SizeCode.{decodedOf}
 use Rattle.tags.specs.Verdict.{verdictNumber, verdictValue, toldOf}
 use Rattle.tags.proofs.Tags.{decoded-within}
+use Rattle.tags.proofs.Verdicts.{code-fault}
 use Rattle.chunks.specs.Chunk.{redzone, guard, bufferSize, chunkOf, freeChunk, grantedChunk, lawfulSize, grantSize, clientOffset}
 use Rattle.chunks.specs.Header.{codedSize, requestOf, requestMost, headerRight}
 use Rattle.chunks.proofs.Headers.{right-some}
@@ -137,7 +138,7 @@ coded-within f c s e = go (eqb (r1Of f c) redzone) (decodedOf (r1Of f c) (buffer
         → (1 ≤ s) × (s ≤ bufferSize c)
     go true d q g = absurd (let w = zone-within c (wordBytes f redzone) Whole s g in let z : _≡_ {A = ℕ} 0 1 = cc in omega arith)
     go false (Size k) q g = let z : k ≡ s = sized k (eqb (getD c k 0) guard) g in decoded-within (r1Of f c) (bufferSize c) s (q ∙ ap Size z)
-    go false Bad q g = absurd (let z : _≡_ {A = ℕ} 0 1 = cc in omega arith)
+    go false (Bad how) q g = absurd (let z : _≡_ {A = ℕ} 0 1 = cc in omega arith)
 
 -- the verdict of number 2 is the one of so many bytes allocated
 allocated-two : (v : Verdict) → verdictNumber v ≡ 2 → v ≡ Allocated (verdictValue v)
@@ -151,7 +152,7 @@ allocated-two OffChain e = absurd (omega arith)
 allocated-two OnChain e = absurd (omega arith)
 allocated-two (BadFill o) e = absurd (omega arith)
 allocated-two (BadRedzone o) e = absurd (omega arith)
-allocated-two BadSizeCode e = absurd (omega arith)
+allocated-two (BadSizeCode how) e = absurd (omega (arith, code-fault how))
 allocated-two (Overrun o) e = absurd (omega arith)
 allocated-two BadHeader e = absurd (omega arith)
 

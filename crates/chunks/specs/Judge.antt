@@ -14,6 +14,7 @@ use Rattle.tags.specs.Format.{wordBytes, wordAt}
 use Rattle.tags.specs.SizeCode.{decodedOf}
 use Rattle.tags.specs.Verdict.{verdictNumber, verdictValue}
 use Rattle.tags.specs.declared.format.Format.{Format}
+use Rattle.tags.specs.declared.size_code.BadCode.{BadCode}
 use Rattle.tags.specs.declared.size_code.Decoded.{Decoded}
 use Rattle.tags.specs.declared.size_code.Decoded.the-variants as decoded
 use Rattle.tags.specs.declared.verdict.Verdict.{Verdict}
@@ -47,12 +48,12 @@ zoneAfter f s size = cond (eqb s size) (set (wordBytes f redzone) 0 guard) (word
 unfoldable pub sizedVerdict : Format → List ℕ → ℕ → Verdict
 sizedVerdict f c s = cond (eqb (getD c s 0) guard) (zoneVerdict c (zoneAfter f s (bufferSize c)) (Allocated s)) (Overrun s)
 
--- by what a code says: its size, or that it is none
-abbrev pub byDecoded : Decoded → (ℕ → Verdict) → Verdict → Verdict
+-- by what a code says: its size, or how it is bad
+abbrev pub byDecoded : Decoded → (ℕ → Verdict) → (BadCode → Verdict) → Verdict
 byDecoded (decoded.Size s) f bad = f s
-byDecoded decoded.Bad f bad = bad
+byDecoded (decoded.Bad how) f bad = bad how
 
--- J4 (allocated pattern, R1 is 0xfeedface): V28 (R0), else V1; J5 (any other R1): V27 (no size code), or what J5 has for its s
+-- J4 (allocated pattern, R1 is 0xfeedface): V28 (R0), else V1; J5 (any other R1): V27, V31, V32 (how it is no size code), or what J5 has for its s
 unfoldable pub codedVerdict : Format → List ℕ → Verdict
 codedVerdict f c =
     cond (eqb (r1Of f c) redzone) (zoneVerdict c (wordBytes f redzone) Whole)

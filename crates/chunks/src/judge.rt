@@ -93,7 +93,7 @@ pub fn judge_coded(f: Format, chunk: &[u8]) -> Told
     }
     let code = size_code::decode(r1, size as u32);
     match code {
-        Decoded::Bad => verdict::tell(Verdict::BadSizeCode),
+        Decoded::Bad(how) => verdict::tell(Verdict::BadSizeCode(how)),
         Decoded::Size(s) => judge_sized(f, chunk, s),
     }
 }

@@ -10,6 +10,7 @@ use lib.Dec.{eqb}
 use lib.ListN.{length}
 use Rattle.words.proofs.Tests.{by-test}
 use Rattle.tags.specs.Tag.{patternOf}
+use Rattle.tags.specs.Verdict.{codeNumber}
 use Rattle.tags.specs.declared.format.Profile.{Profile}
 use Rattle.tags.specs.declared.tag.Pattern.{Pattern}
 use Rattle.tags.specs.declared.tag.Pattern.the-variants as pattern
@@ -17,6 +18,7 @@ use Rattle.tags.specs.declared.verdict.Verdict.{Verdict}
 use Rattle.tags.specs.declared.verdict.Verdict.the-variants.{Free, Whole, Allocated, NotOneRecord, BadTag, FreedTwice}
 use Rattle.tags.specs.declared.verdict.Verdict.the-variants.{OffChain, OnChain, BadFill, BadRedzone, BadSizeCode, Overrun, BadHeader}
 use Rattle.tags.specs.declared.refusal.Refusal.the-variants.{Damage}
+use Rattle.tags.proofs.Verdicts.{code-fault}
 use Rattle.chunks.specs.Chunk.{bufferSize, tagAt, lawfulSize}
 use Rattle.chunks.specs.Judge.{allocatedVerdict}
 use Rattle.chunks.specs.declared.chunk.Grant.{Grant}
@@ -73,7 +75,9 @@ module _ (m : Image) (address : ℕ) (p : Spot)
   held-as-if OnChain f = tt
   held-as-if (BadFill o) f = tt
   held-as-if (BadRedzone o) f = tt
-  held-as-if BadSizeCode f = tt
+  held-as-if (BadSizeCode how) f =
+      let k = code-fault how in
+      rw (ne-eqb (codeNumber how) 1 (λ e. omega arith), ne-eqb (codeNumber how) 2 (λ e. omega arith)) tt
   held-as-if (Overrun o) f = tt
   held-as-if BadHeader f = tt
 

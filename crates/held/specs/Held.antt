@@ -29,7 +29,7 @@ use Rattle.held.specs.declared.Held.the-variants.{Buffer, Refused}
 abbrev pub holding : Spot → Grant → Holding
 holding p q = record { spot = p; grant = q }
 
--- E6 (X7 with 27, 28 or 30), J9 (found as granted: 1 whole, 2 with s)
+-- E6 (X7 with 27, 31, 32, 28 or 30), J9 (found as granted: 1 whole, 2 with s)
 abbrev pub heldAs : Verdict → Spot → Held
 heldAs v p =
     cond (eqb (verdictNumber v) 1) (Buffer (holding p Whole))
@@ -50,7 +50,7 @@ heldChunk m c address i =
     (Refused (Damage verdict.BadTag)))
     (Refused (Damage verdict.BadTag))
 
--- E6 (free, store and show: X4, X7 with 21, X8, X7 with 27, 28 or 30), in an image
+-- E6 (free, store and show: X4, X7 with 21, X8, X7 with 27, 31, 32, 28 or 30), in an image
 unfoldable pub heldOf : Image → ℕ → Held
 heldOf m address = byPlace (bufferOf (m .sheet) address) (λ i. heldChunk m (chunkAt m i) address i) (Refused NoSuchBuffer)
 

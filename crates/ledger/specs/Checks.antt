@@ -114,9 +114,9 @@ checks f =
     ∷ examined (freeWith f (filledWith f freeFill) 0x8440c68f) 0x70ae3260 true 21 0
     ∷ examined (allocatedWith f (set (filledWith f grantFill) 20 guard) redzone 0x139d) 0x70ae3200 false 2 20
     ∷ examined (allocatedWith f (set (filledWith f grantFill) 20 guard) redzone 0x139e) 0x70ae3200 false 27 0
-    ∷ examined (allocatedWith f (filledWith f grantFill) redzone 1) 0x70ae3200 false 27 0
+    ∷ examined (allocatedWith f (filledWith f grantFill) redzone 1) 0x70ae3200 false 31 0
     ∷ examined (allocatedWith f (filledWith f grantFill) (guardedZone (f .order)) 0x1789) 0x70ae3200 false 2 24
-    ∷ examined (allocatedWith f (filledWith f grantFill) redzone 0x1884) 0x70ae3200 false 27 0
+    ∷ examined (allocatedWith f (filledWith f grantFill) redzone 0x1884) 0x70ae3200 false 32 0
     ∷ examined (allocatedWith f (filledWith f grantFill) 0x00edface redzone) 0x70ae3200 false 28 (24 + highestAt (f .order))
     ∷ examined (freeWith f (set (filledWith f freeFill) 9 0) 0x8440c68e) 0x70ae3260 true 25 9
     ∷ aged 0x10 0xfffffff0 8 32 8
@@ -142,6 +142,10 @@ userlandChecks f =
     ∷ examined (allocatedWith f (set (headedWith f 0x13 0x3a10bfee) 18 guard) redzone 0x11a7) 0x70ae3200 false 30 0
     ∷ examined (allocatedWith f (set (headedWith f 0x12 0x3a10bfef) 18 guard) redzone 0x11a7) 0x70ae3200 false 30 0
     ∷ examined (allocatedWith f (set (headedWith f 8 0x3a10bff8) 8 guard) redzone 0x7d9) 0x70ae3200 false 30 0
+    -- V27, V31, V32 (they are of the coded size, and come before V28 and V30)
+    ∷ examined (allocatedWith f (headedWith f 0x13 0x3a10bfee) redzone 0x11a8) 0x70ae3200 false 27 0
+    ∷ examined (allocatedWith f (headedWith f 0 0x3a10c000) redzone 1) 0x70ae3200 false 31 0
+    ∷ examined (allocatedWith f (headedWith f 0x19 0x3a10bfe7) redzone 0x1884) 0x70ae3200 false 32 0
     -- V28 comes before V30
     ∷ examined (allocatedWith f (headedWith f 0x13 0x3a10bfee) redzone 0x11a7) 0x70ae3200 false 28 18
     -- C8, U5 (the largest request)

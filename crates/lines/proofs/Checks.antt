@@ -1,4 +1,4 @@
--- The text computed: document 01's dump case, whole, and two more reports that have every other kind of line. Assumes nothing.
+-- The text computed: document 01's dump case, whole, and three more reports that have every other kind of line. Assumes nothing.
 use mathlib.Core.Path.{_≡_, refl}
 use mathlib.Core.List.{List, [], _∷_}
 use Prim.Native.Nat.{ℕ}
@@ -7,6 +7,7 @@ use lib.ListN.{length, getD}
 use Rattle.tags.specs.declared.ending.Ending.{Ending}
 use Rattle.tags.specs.declared.ending.Ending.the-variants.{End, Broken, Again}
 use Rattle.tags.specs.Verdict.{verdictNumber, verdictValue}
+use Rattle.tags.specs.declared.size_code.BadCode.the-variants.{Remainder, Zero, Above}
 use Rattle.tags.specs.declared.verdict.Verdict.{Verdict}
 use Rattle.tags.specs.declared.verdict.Verdict.the-variants.{Free, Whole, Allocated, NotOneRecord, BadTag, FreedTwice, OffChain, OnChain}
 use Rattle.tags.specs.declared.verdict.Verdict.the-variants.{BadFill, BadRedzone, BadSizeCode, Overrun, BadHeader}
@@ -36,7 +37,14 @@ offset-case = (refl, refl)
 
 -- the faults that have none
 pub fault-case :
-    Says (NotOneRecord ∷ BadTag ∷ FreedTwice ∷ OffChain ∷ OnChain ∷ BadSizeCode ∷ BadHeader ∷ []) 10 (Again 2)
-    "heap report 1\n0 fault 20\n1 fault 21\n2 fault 22\n3 fault 23\n4 fault 24\n5 fault 27\n6 fault 30\nchain 10 again 2\nfaults 7\n" 117
+    Says (NotOneRecord ∷ BadTag ∷ FreedTwice ∷ OffChain ∷ OnChain ∷ BadHeader ∷ []) 10 (Again 2)
+    "heap report 1\n0 fault 20\n1 fault 21\n2 fault 22\n3 fault 23\n4 fault 24\n5 fault 30\nchain 10 again 2\nfaults 6\n" 106
 unfolding decimalWith hasOffset lineOf faultLineOf flat chainLineOf total textOf
 fault-case = (refl, refl)
+
+-- how a size code is bad
+pub code-case :
+    Says (BadSizeCode Remainder ∷ BadSizeCode Zero ∷ BadSizeCode Above ∷ []) 0 End
+    "heap report 1\n0 fault 27\n1 fault 31\n2 fault 32\nchain 0 end\nfaults 3\n" 68
+unfolding decimalWith hasOffset lineOf faultLineOf flat chainLineOf total textOf
+code-case = (refl, refl)

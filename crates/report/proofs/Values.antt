@@ -82,7 +82,7 @@ module _ (f : Format) (c : List ℕ) where
     where
       go : (d : Decoded) → decodedOf (r1Of f c) (bufferSize c) ≡ d → Small c (byDecoded d (sizedVerdict f c) BadSizeCode)
       go (decoded.Size s) e = sized-small s (decoded-within (r1Of f c) (bufferSize c) s e .1)
-      go decoded.Bad e = omega arith
+      go (decoded.Bad how) e = omega arith
 
   -- a request is no more than its coded size
   header-small : (s : ℕ) → s ≤ bufferSize c + 8 → Small c (headerVerdict f c s)

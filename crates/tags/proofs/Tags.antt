@@ -1,17 +1,18 @@
 -- The laws of tags and of size codes. Assumes nothing.
 use mathlib.Core.Path.{_≡_, refl, ap, ap₂, _∙_}
-use mathlib.Core.Bool.{Bool, true, false, _&&_, and-eq-true-iff, cond}
+use mathlib.Core.Bool.{Bool, true, false, not, cond}
 use Prim.Native.Nat.{ℕ, zero, suc, _+_, _-_, _*_, _/_, _%_, _≤_, _<_}
 use native.Mathlib.Nat.{mod-lt, div-add-mod', zero-lt-suc}
 use native.Mathlib.Omega.{arith}
-use borrow.Author.Tests.{le-leb, leb-true, eqb-true}
+use borrow.Author.Tests.{le-ltb, ltb-false, eqb-true, eqb-false, ne-eqb}
 use lib.Arith.{bin-ind}
 use lib.Bits.{bitXor, differ, xor-step, xor-shr, xor-mod}
-use lib.Dec.{eqb, leb}
+use lib.Dec.{eqb, ltb}
 use Rattle.tags.specs.Tag.{tagOf, patternOf, patternWord, stateWord, freePattern, allocatedPattern, isFree, isAllocated}
 use Rattle.tags.specs.SizeCode.{codeOf, decodedOf}
 use Rattle.tags.specs.declared.tag.State.{State}
 use Rattle.tags.specs.declared.size_code.Decoded.the-variants.{Size, Bad}
+use Rattle.tags.specs.declared.size_code.BadCode.the-variants.{Remainder, Zero, Above}
 use Rattle.tags.specs.declared.tag.State.the-variants as state
 use Rattle.tags.specs.declared.tag.Pattern.{Pattern}
 use Rattle.tags.specs.declared.tag.Pattern.the-variants as pattern
@@ -105,18 +106,19 @@ unfolding decodedOf
 decode-code s most h k =
     let q : (251 * s + 1) / 251 ≡ s = omega arith in
     let r : (251 * s + 1) % 251 ≡ 1 = omega arith in
-    rw (q, r, le-leb 1 s h, le-leb s most k)
+    rw (q, r, ne-eqb s 0 (λ z. omega arith), le-ltb most s k)
 
 -- a decoded size is one of the buffer's
 pub decoded-within : (code most s : ℕ) → decodedOf code most ≡ Size s → (1 ≤ s) × (s ≤ most)
 unfolding decodedOf
-decoded-within code most s e = go (eqb (code % 251) 1 && (leb 1 (code / 251) && leb (code / 251) most)) refl e
+decoded-within code most s e = go (not (eqb (code % 251) 1)) (eqb (code / 251) 0) (ltb most (code / 251)) refl refl e
   where
-    go : (b : Bool) → eqb (code % 251) 1 && (leb 1 (code / 251) && leb (code / 251) most) ≡ b → cond b (Size (code / 251)) Bad ≡ Size s
-        → (1 ≤ s) × (s ≤ most)
-    go true t f =
-        let z : code / 251 ≡ s = cc in
-        let size = and-eq-true-iff (eqb (code % 251) 1) (leb 1 (code / 251) && leb (code / 251) most) .0 t .1 in
-        let both = and-eq-true-iff (leb 1 (code / 251)) (leb (code / 251) most) .0 size in
-        rw (← z) (leb-true 1 (code / 251) (both .0), leb-true (code / 251) most (both .1))
-    go false t f = absurd (let z : _≡_ {A = ℕ} 0 1 = cc in omega arith)
+    go : (r z a : Bool) → eqb (code / 251) 0 ≡ z → ltb most (code / 251) ≡ a
+        → cond r (Bad Remainder) (cond z (Bad Zero) (cond a (Bad Above) (Size (code / 251)))) ≡ Size s → (1 ≤ s) × (s ≤ most)
+    go true z a t u f = absurd (let z : _≡_ {A = ℕ} 0 1 = cc in omega arith)
+    go false true a t u f = absurd (let z : _≡_ {A = ℕ} 0 1 = cc in omega arith)
+    go false false true t u f = absurd (let z : _≡_ {A = ℕ} 0 1 = cc in omega arith)
+    go false false false t u f =
+        let e : code / 251 ≡ s = cc in
+        let n = eqb-false (code / 251) 0 t in
+        (omega arith, omega (arith, ltb-false most (code / 251) u))

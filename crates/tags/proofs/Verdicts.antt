@@ -1,9 +1,24 @@
--- The law of a verdict as numbers. Assumes nothing.
+-- The laws of a verdict as numbers. Assumes nothing.
 use mathlib.Core.Path.{_≡_, refl}
-use Rattle.tags.specs.Verdict.{toldOf, ofTold}
+use Prim.Native.Nat.{_≤_, _<_}
+use lib.Dec.{lit≤}
+use Rattle.tags.specs.Verdict.{codeNumber, toldOf, ofTold}
+use Rattle.tags.specs.declared.size_code.BadCode.{BadCode}
+use Rattle.tags.specs.declared.size_code.BadCode.the-variants.{Remainder, Zero, Above}
 use Rattle.tags.specs.declared.verdict.Verdict.{Verdict}
 use Rattle.tags.specs.declared.verdict.Verdict.the-variants.{Free, Whole, Allocated, NotOneRecord, BadTag, FreedTwice}
 use Rattle.tags.specs.declared.verdict.Verdict.the-variants.{OffChain, OnChain, BadFill, BadRedzone, BadSizeCode, Overrun, BadHeader}
+
+-- however a size code is bad, it is a fault, whose number has two digits
+pub code-fault : (how : BadCode) → 20 ≤ codeNumber how
+code-fault Remainder = lit≤ tt
+code-fault Zero = lit≤ tt
+code-fault Above = lit≤ tt
+
+pub code-small : (how : BadCode) → codeNumber how < 100
+code-small Remainder = lit≤ tt
+code-small Zero = lit≤ tt
+code-small Above = lit≤ tt
 
 -- the numbers of a verdict tell it
 pub told-back : (v : Verdict) → ofTold (toldOf v) ≡ v
@@ -18,6 +33,8 @@ told-back OffChain = refl
 told-back OnChain = refl
 told-back (BadFill o) = refl
 told-back (BadRedzone o) = refl
-told-back BadSizeCode = refl
+told-back (BadSizeCode Remainder) = refl
+told-back (BadSizeCode Zero) = refl
+told-back (BadSizeCode Above) = refl
 told-back (Overrun o) = refl
 told-back BadHeader = refl

@@ -2,11 +2,19 @@
 use mathlib.Core.Bool.{Bool, _||_, cond}
 use Prim.Native.Nat.{ℕ}
 use lib.Dec.{eqb, leb}
+use Rattle.tags.specs.declared.size_code.BadCode.{BadCode}
+use Rattle.tags.specs.declared.size_code.BadCode.the-variants.{Remainder, Zero, Above}
 use Rattle.tags.specs.declared.verdict.Told.{Told}
 use Rattle.tags.specs.declared.verdict.Verdict.{Verdict}
 use Rattle.tags.specs.declared.verdict.Verdict.the-variants.{Free, Whole, Allocated, NotOneRecord, BadTag, FreedTwice, OffChain, OnChain, BadFill, BadRedzone, BadSizeCode, Overrun, BadHeader}
 
--- V0 free, V1 whole, V2 allocated s, and the faults V20 to V28 and V30: the rule's number is the verdict's
+-- V27 wrong remainder, V31 size zero, V32 above the buffer size: what is bad in a size code
+abbrev pub codeNumber : BadCode → ℕ
+codeNumber Remainder = 27
+codeNumber Zero = 31
+codeNumber Above = 32
+
+-- V0 free, V1 whole, V2 allocated s, and the faults V20 to V28 and V30 to V32: the rule's number is the verdict's
 abbrev pub verdictNumber : Verdict → ℕ
 verdictNumber Free = 0
 verdictNumber Whole = 1
@@ -18,7 +26,7 @@ verdictNumber OffChain = 23
 verdictNumber OnChain = 24
 verdictNumber (BadFill o) = 25
 verdictNumber (BadRedzone o) = 26
-verdictNumber BadSizeCode = 27
+verdictNumber (BadSizeCode how) = codeNumber how
 verdictNumber (Overrun o) = 28
 verdictNumber BadHeader = 30
 
@@ -34,7 +42,7 @@ verdictValue OffChain = 0
 verdictValue OnChain = 0
 verdictValue (BadFill o) = o
 verdictValue (BadRedzone o) = o
-verdictValue BadSizeCode = 0
+verdictValue (BadSizeCode how) = 0
 verdictValue (Overrun o) = o
 verdictValue BadHeader = 0
 
@@ -55,8 +63,10 @@ ofTold t =
     (cond (eqb (t .number) 24) OnChain
     (cond (eqb (t .number) 25) (BadFill (t .value))
     (cond (eqb (t .number) 26) (BadRedzone (t .value))
-    (cond (eqb (t .number) 27) BadSizeCode
-    (cond (eqb (t .number) 28) (Overrun (t .value)) BadHeader)))))))))))
+    (cond (eqb (t .number) 27) (BadSizeCode Remainder)
+    (cond (eqb (t .number) 28) (Overrun (t .value))
+    (cond (eqb (t .number) 31) (BadSizeCode Zero)
+    (cond (eqb (t .number) 32) (BadSizeCode Above) BadHeader)))))))))))))
 
 -- ---- what a verdict says, by its number
 

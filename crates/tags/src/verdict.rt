@@ -1,9 +1,10 @@
 // What is found of a buffer.
 ghost use mathlib.Core.Path.{_≡_};
-ghost use Rattle.tags.specs.Verdict.{verdictNumber, verdictValue, toldOf, ofTold};
+ghost use Rattle.tags.specs.Verdict.{codeNumber, verdictNumber, verdictValue, toldOf, ofTold};
+use crate::size_code::BadCode;
 
-// Document 01's verdicts, in the order of their numbers. A size is that of the grant; an offset is that of the first byte
-// that differs, from the buffer's start.
+// The rules' verdicts, in the order of their numbers; a bad size code has one of three, by how it is bad. A size is that of the
+// grant; an offset is that of the first byte that differs, from the buffer's start.
 pub enum Verdict {
     Free,
     Whole,
@@ -15,7 +16,7 @@ pub enum Verdict {
     OnChain,
     BadFill(u32),
     BadRedzone(u32),
-    BadSizeCode,
+    BadSizeCode(BadCode),
     Overrun(u32),
     BadHeader,
 }
@@ -24,6 +25,17 @@ pub enum Verdict {
 pub struct Told {
     pub number: u32,
     pub value: u32,
+}
+
+// The number of the verdict on a bad size code.
+fn code_number(how: BadCode) -> u32
+    ensures { λ r. ⌜ r ≡ codeNumber how ⌝ }
+{
+    match how {
+        BadCode::Remainder => 27,
+        BadCode::Zero => 31,
+        BadCode::Above => 32,
+    }
 }
 
 // The number of a verdict.
@@ -41,7 +53,7 @@ pub fn number(v: Verdict) -> u32
         Verdict::OnChain => 24,
         Verdict::BadFill(_) => 25,
         Verdict::BadRedzone(_) => 26,
-        Verdict::BadSizeCode => 27,
+        Verdict::BadSizeCode(how) => code_number(how),
         Verdict::Overrun(_) => 28,
         Verdict::BadHeader => 30,
     }
@@ -63,7 +75,7 @@ pub fn value(v: Verdict) -> u32
         Verdict::FreedTwice => 0,
         Verdict::OffChain => 0,
         Verdict::OnChain => 0,
-        Verdict::BadSizeCode => 0,
+        Verdict::BadSizeCode(_) => 0,
         Verdict::BadHeader => 0,
     }
 }
@@ -94,8 +106,10 @@ pub fn of(t: Told) -> Verdict
         24 => Verdict::OnChain,
         25 => Verdict::BadFill(t.value),
         26 => Verdict::BadRedzone(t.value),
-        27 => Verdict::BadSizeCode,
+        27 => Verdict::BadSizeCode(BadCode::Remainder),
         28 => Verdict::Overrun(t.value),
+        31 => Verdict::BadSizeCode(BadCode::Zero),
+        32 => Verdict::BadSizeCode(BadCode::Above),
         _ => Verdict::BadHeader,
     }
 }

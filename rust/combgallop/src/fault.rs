@@ -2,23 +2,26 @@
 
 use std::fmt::{Display, Formatter, Result as Written};
 
-/// The kinds of damage, each with its verdict's number.
+use crate::BadCode;
+
+/// The kinds of damage.
 #[derive(Clone, Copy, PartialEq, Eq, Debug)]
 pub enum Fault {
-    NotOneRecord = 20,
-    BadTag = 21,
-    FreedTwice = 22,
-    OffChain = 23,
-    OnChain = 24,
-    BadFill = 25,
-    BadRedzone = 26,
-    BadSizeCode = 27,
-    Overrun = 28,
-    BadHeader = 30,
+    NotOneRecord,
+    BadTag,
+    FreedTwice,
+    OffChain,
+    OnChain,
+    BadFill,
+    BadRedzone,
+    BadSizeCode(BadCode),
+    Overrun,
+    BadHeader,
 }
 
 impl Fault {
-    pub const ALL: [Fault; 10] = [
+    /// Every one, in the order of the numbers.
+    pub const ALL: [Fault; 12] = [
         Fault::NotOneRecord,
         Fault::BadTag,
         Fault::FreedTwice,
@@ -26,9 +29,11 @@ impl Fault {
         Fault::OnChain,
         Fault::BadFill,
         Fault::BadRedzone,
-        Fault::BadSizeCode,
+        Fault::BadSizeCode(BadCode::Remainder),
         Fault::Overrun,
         Fault::BadHeader,
+        Fault::BadSizeCode(BadCode::Zero),
+        Fault::BadSizeCode(BadCode::Above),
     ];
 
     /// The fault with a number, none where there is no such fault.
@@ -37,10 +42,23 @@ impl Fault {
         all.find(|fault| fault.number() == number)
     }
 
+    /// The verdict's number.
     pub fn number(self) -> u8 {
-        self as u8
+        match self {
+            Fault::NotOneRecord => 20,
+            Fault::BadTag => 21,
+            Fault::FreedTwice => 22,
+            Fault::OffChain => 23,
+            Fault::OnChain => 24,
+            Fault::BadFill => 25,
+            Fault::BadRedzone => 26,
+            Fault::BadSizeCode(how) => how.number(),
+            Fault::Overrun => 28,
+            Fault::BadHeader => 30,
+        }
     }
 
+    /// What it means, without how a size code is bad.
     fn meaning(self) -> &'static str {
         match self {
             Fault::NotOneRecord => {
@@ -56,7 +74,7 @@ impl Fault {
             Fault::OnChain => "the buffer is tagged allocated but on the chain of free buffers",
             Fault::BadFill => "the buffer was written to after it was freed",
             Fault::BadRedzone => "the eight bytes behind the free buffer were written to",
-            Fault::BadSizeCode => {
+            Fault::BadSizeCode(_) => {
                 "the buffer is allocated but the word that holds its size is damaged"
             }
             Fault::Overrun => "the buffer was written to past the end of what was granted",
@@ -69,6 +87,10 @@ impl Fault {
 
 impl Display for Fault {
     fn fmt(&self, out: &mut Formatter) -> Written {
-        out.write_str(self.meaning())
+        out.write_str(self.meaning())?;
+        match self {
+            Fault::BadSizeCode(how) => write!(out, ": {how}"),
+            _ => Ok(()),
+        }
     }
 }

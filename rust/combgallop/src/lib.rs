@@ -8,6 +8,7 @@
 mod allocate;
 mod answer;
 mod area_lengths;
+mod bad_code;
 mod chain;
 mod fault;
 mod ffi;
@@ -29,6 +30,7 @@ mod verdict;
 pub use allocate::{allocate, allocate_answer};
 pub use answer::Answer;
 pub use area_lengths::{area_lengths, area_lengths_answer, AreaLengths};
+pub use bad_code::BadCode;
 pub use chain::{Chain, Ending};
 pub use fault::Fault;
 pub use finding::{Finding, Findings};

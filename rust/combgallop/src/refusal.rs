@@ -121,10 +121,10 @@ mod tests {
     use std::error::Error;
 
     use super::Refusal;
-    use crate::Fault;
+    use crate::{BadCode, Fault};
 
     /// The document's table, "detail is the verdict number, or 29 for a broken head".
-    const TABLE: [(u8, u8, Refusal); 23] = [
+    const TABLE: [(u8, u8, Refusal); 25] = [
         (1, 0, Refusal::BadSheet),
         (2, 0, Refusal::BadNumber),
         (3, 0, Refusal::BadLength),
@@ -138,10 +138,16 @@ mod tests {
         (7, 24, Refusal::Damage(Fault::OnChain)),
         (7, 25, Refusal::Damage(Fault::BadFill)),
         (7, 26, Refusal::Damage(Fault::BadRedzone)),
-        (7, 27, Refusal::Damage(Fault::BadSizeCode)),
+        (
+            7,
+            27,
+            Refusal::Damage(Fault::BadSizeCode(BadCode::Remainder)),
+        ),
         (7, 28, Refusal::Damage(Fault::Overrun)),
         (7, 29, Refusal::BrokenHead),
         (7, 30, Refusal::Damage(Fault::BadHeader)),
+        (7, 31, Refusal::Damage(Fault::BadSizeCode(BadCode::Zero))),
+        (7, 32, Refusal::Damage(Fault::BadSizeCode(BadCode::Above))),
         (8, 0, Refusal::NotAllocated),
         (9, 0, Refusal::OtherGrant),
         (10, 0, Refusal::PastClient),

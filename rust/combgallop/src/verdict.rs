@@ -2,9 +2,9 @@
 
 use std::fmt::{Display, Formatter, Result as Written};
 
-use crate::Fault;
+use crate::{BadCode, Fault};
 
-/// The verdicts in the order of their numbers. A size is that which the client asked for,
+/// The verdicts in the order of their numbers; a bad size code has one of three. A size is that which the client asked for,
 /// without a header; an offset is that of the first byte that differs, from the buffer's
 /// start. Only userland images have a header to be wrong.
 #[derive(Clone, Copy, PartialEq, Eq, Debug)]
@@ -19,7 +19,7 @@ pub enum Verdict {
     OnChain,
     BadFill(u32),
     BadRedzone(u32),
-    BadSizeCode,
+    BadSizeCode(BadCode),
     Overrun(u32),
     BadHeader,
 }
@@ -39,9 +39,11 @@ impl Verdict {
             (24, 0) => Verdict::OnChain,
             (25, offset) => Verdict::BadFill(offset),
             (26, offset) => Verdict::BadRedzone(offset),
-            (27, 0) => Verdict::BadSizeCode,
+            (27, 0) => Verdict::BadSizeCode(BadCode::Remainder),
             (28, offset) => Verdict::Overrun(offset),
             (30, 0) => Verdict::BadHeader,
+            (31, 0) => Verdict::BadSizeCode(BadCode::Zero),
+            (32, 0) => Verdict::BadSizeCode(BadCode::Above),
             _ => return None,
         })
     }
@@ -58,7 +60,7 @@ impl Verdict {
             Verdict::OnChain => 24,
             Verdict::BadFill(_) => 25,
             Verdict::BadRedzone(_) => 26,
-            Verdict::BadSizeCode => 27,
+            Verdict::BadSizeCode(how) => how.number(),
             Verdict::Overrun(_) => 28,
             Verdict::BadHeader => 30,
         }
@@ -97,11 +99,11 @@ mod tests {
     use std::collections::BTreeSet;
 
     use super::Verdict;
-    use crate::Fault;
+    use crate::{BadCode, Fault};
 
     /// The document's verdicts: number, size or offset, and whether it is a fault,
     /// which is "a verdict of 20 or more".
-    const TABLE: [(u32, u32, Verdict, bool); 13] = [
+    const TABLE: [(u32, u32, Verdict, bool); 15] = [
         (0, 0, Verdict::Free, false),
         (1, 0, Verdict::Whole, false),
         (2, 20, Verdict::Allocated(20), false),
@@ -112,9 +114,11 @@ mod tests {
         (24, 0, Verdict::OnChain, true),
         (25, 9, Verdict::BadFill(9), true),
         (26, 24, Verdict::BadRedzone(24), true),
-        (27, 0, Verdict::BadSizeCode, true),
+        (27, 0, Verdict::BadSizeCode(BadCode::Remainder), true),
         (28, 20, Verdict::Overrun(20), true),
         (30, 0, Verdict::BadHeader, true),
+        (31, 0, Verdict::BadSizeCode(BadCode::Zero), true),
+        (32, 0, Verdict::BadSizeCode(BadCode::Above), true),
     ];
 
     #[test]
@@ -164,6 +168,11 @@ mod tests {
             Verdict::OnChain.to_string(),
             "fault 24: the buffer is tagged allocated but on the chain of free buffers"
         );
+        assert_eq!(
+            Verdict::BadSizeCode(BadCode::Zero).to_string(),
+            "fault 31: the buffer is allocated but the word that holds its size is damaged: \
+             it is the code of size zero"
+        );
     }
 
     /// A fault's words start with its number, and no two faults mean the same.
@@ -177,6 +186,6 @@ mod tests {
                 meaning.expect("its number first").to_string()
             })
             .collect();
-        assert_eq!(meanings.len(), 10);
+        assert_eq!(meanings.len(), 12);
     }
 }

@@ -12,7 +12,7 @@ use reference::{
 
 use crate::image::ROW_SIZE;
 use crate::profile::record_size;
-use crate::words::{word, word_bytes};
+use crate::words::{put_word, word, word_bytes};
 
 const CACHE: u32 = 0x7003_9928;
 const HEAP_BASE: u32 = 0x70a9_add8;
@@ -26,6 +26,9 @@ const THIRD: u32 = HEAP_BASE + 80;
 
 /// The guard byte of the first buffer, whose coded size is 20.
 const GUARD: usize = 20;
+
+/// Where R1 of the first buffer stands, which holds the code of that size.
+const CODE: usize = 28;
 
 /// The request whose coded size is 20.
 fn some(profile: Profile) -> Grant {
@@ -108,6 +111,7 @@ fn trace_in(profile: Profile, order: Order) -> String {
     trace.ask();
     trace.read();
     trace.hurt();
+    trace.hurt_codes();
     trace.lines
 }
 
@@ -184,6 +188,15 @@ impl Trace {
         self.heap[GUARD] = 0xbb;
         self.heap[3] = 0x55;
         self.use_hurt();
+    }
+
+    /// The size code of the first buffer: a wrong remainder, the code of size zero, and the
+    /// least one above the buffer's size.
+    fn hurt_codes(&mut self) {
+        for code in [251 * 20 + 2, 1, 251 * 25 + 1] {
+            put_word(self.order, &mut self.heap, CODE, code);
+            self.use_hurt();
+        }
     }
 
     fn use_hurt(&mut self) {

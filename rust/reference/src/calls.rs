@@ -251,7 +251,8 @@ pub fn show<'a>(
 
 /// The granted buffer at an address, with its grant. "Free, store, show: 4; 7 with
 /// 21 if T0 names no record, that record doesn't name this buffer, or neither
-/// pattern; 8; 7 with 27 or 28", or with 30, "a possible detail of refusal 7".
+/// pattern; 8; 7 with 27 or 28", or with 31 or 32, as the verdicts and "the details of
+/// refusal 7" follow the size decoder, or with 30, "a possible detail of refusal 7".
 fn granted_buffer(areas: &Areas, address: u32) -> Result<(Pair, Grant), Refusal> {
     let buffer = areas.buffer_at(address).ok_or(Refusal::plain(4))?;
     let chunk = areas.chunk(buffer);

@@ -2,6 +2,7 @@
 //! address, and T1". How it is written and how it is judged by itself.
 
 use crate::profile::Profile;
+use crate::size_code::{decode, SizeCode};
 use crate::verdict::Verdict;
 use crate::words::{put_word, word, word_bytes, Order};
 
@@ -106,13 +107,14 @@ impl<'a> Chunk<'a> {
         }
     }
 
-    /// "Then s = R1/251: 28 at s if that byte isn't 0xbb; else 28 at R0's first
-    /// byte that differs from fe ed fa ce (with bb first when s is buffer size)"; the
-    /// header is judged after that. With the low byte first these are ce fa ed fe, and
-    /// "a full-size grant's R0 word reads 0xfeedfabb".
+    /// 27, 31 or 32 if the decoder says that the code is bad. "Then s = R1/251: 28 at s if
+    /// that byte isn't 0xbb; else 28 at R0's first byte that differs from fe ed fa ce (with
+    /// bb first when s is buffer size)"; the header is judged after that. With the low byte
+    /// first these are ce fa ed fe, and "a full-size grant's R0 word reads 0xfeedfabb".
     fn judge_sized(&self) -> Verdict {
-        let Some(s) = coded_size(self.r1(), self.size) else {
-            return Verdict::BadSizeCode;
+        let s = match decode(self.r1(), self.size) {
+            SizeCode::Size(s) => s,
+            SizeCode::Bad(hurt) => return Verdict::BadSizeCode(hurt),
         };
         if self.bytes[s] != GUARD {
             return Verdict::GuardDiffers(s as u32);
@@ -140,13 +142,6 @@ impl<'a> Chunk<'a> {
             Verdict::BadHeader
         }
     }
-}
-
-/// "27 unless R1 mod 251 is 1 and R1/251 is 1 to buffer size": the size, or none for 27.
-fn coded_size(r1: u32, size: usize) -> Option<usize> {
-    let s = (r1 / 251) as usize;
-    let is_code = r1 % 251 == 1 && (1..=size).contains(&s);
-    is_code.then_some(s)
 }
 
 /// The offset of the first byte that differs from the four wanted bytes repeated.

@@ -17,6 +17,7 @@ mod record;
 mod refusal;
 mod report;
 mod sheet;
+mod size_code;
 mod verdict;
 mod words;
 
@@ -30,5 +31,6 @@ pub use program::program;
 pub use refusal::Refusal;
 pub use report::{report, report_text};
 pub use sheet::{area_lengths, sheet_order, SHEET_LENGTH, SHORT_SHEET_LENGTH};
+pub use size_code::CodeHurt;
 pub use verdict::Verdict;
 pub use words::Order;

@@ -1,6 +1,8 @@
 //! The verdicts and their numbers.
 
-/// What is found of a buffer, in the order of the document's numbers.
+use crate::size_code::CodeHurt;
+
+/// What is found of a buffer, by the document's numbers.
 #[derive(Clone, Copy, PartialEq, Eq, Debug, Default)]
 pub enum Verdict {
     /// 0: free.
@@ -24,8 +26,8 @@ pub enum Verdict {
     FillDiffers(u32),
     /// 26: the redzone of a free buffer differs, with the offset.
     RedzoneDiffers(u32),
-    /// 27: R1 is no size code.
-    BadSizeCode,
+    /// 27, 31 or 32: R1 is no size code, with "how the size code is bad".
+    BadSizeCode(CodeHurt),
     /// 28: the guard byte or R0 of an allocated buffer differs, with the offset.
     GuardDiffers(u32),
     /// 30: "header wrong", or the coded size leaves the client no byte after it.
@@ -46,7 +48,7 @@ impl Verdict {
             Verdict::AllocatedMet => 24,
             Verdict::FillDiffers(_) => 25,
             Verdict::RedzoneDiffers(_) => 26,
-            Verdict::BadSizeCode => 27,
+            Verdict::BadSizeCode(hurt) => hurt.number(),
             Verdict::GuardDiffers(_) => 28,
             Verdict::BadHeader => 30,
         }

@@ -86,7 +86,7 @@ FOR_EACH_ORDER struct verdict judge_free(enum order order,
     return (struct verdict){FREE, 0};
 }
 
-/* The rules from 27 on, for a buffer with the allocated pattern. */
+/* The rules of the size code, then 28, for a buffer with the allocated pattern. */
 FOR_EACH_ORDER struct verdict judge_allocated(enum order order,
                                               const uint8_t *buffer, uint32_t size)
 {
@@ -95,8 +95,12 @@ FOR_EACH_ORDER struct verdict judge_allocated(enum order order,
     uint32_t r1 = word_at(order, buffer + size + R1);
     if (r1 != REDZONE) {
         uint32_t granted = r1 / CODE_FACTOR;
-        if (r1 % CODE_FACTOR != 1 || granted < 1 || granted > size)
-            return (struct verdict){BAD_SIZE_CODE, 0};
+        if (r1 % CODE_FACTOR != 1)
+            return (struct verdict){CODE_REMAINDER, 0};
+        if (granted == 0)
+            return (struct verdict){CODE_ZERO, 0};
+        if (granted > size)
+            return (struct verdict){CODE_ABOVE, 0};
         if (buffer[granted] != GUARD)
             return (struct verdict){OVERRUN, granted};
         if (granted == size)

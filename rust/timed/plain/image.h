@@ -93,9 +93,11 @@ enum {
     ON_CHAIN = 24,
     BAD_FILL = 25,
     BAD_REDZONE = 26,
-    BAD_SIZE_CODE = 27,
+    CODE_REMAINDER = 27,
     OVERRUN = 28,
-    BROKEN_HEAD = 29
+    BROKEN_HEAD = 29,
+    CODE_ZERO = 31,
+    CODE_ABOVE = 32
 };
 
 /* In place of a record's index; no index is so high. */

@@ -32,7 +32,7 @@ pub enum Met {
 }
 
 /// Every verdict there is under both profiles.
-pub const VERDICTS: [Met; 12] = [
+pub const VERDICTS: [Met; 14] = [
     Met::Verdict(0),
     Met::Verdict(1),
     Met::Verdict(2),
@@ -45,6 +45,8 @@ pub const VERDICTS: [Met; 12] = [
     Met::Verdict(26),
     Met::Verdict(27),
     Met::Verdict(28),
+    Met::Verdict(31),
+    Met::Verdict(32),
 ];
 
 /// The verdict that userland alone has.

@@ -1,6 +1,6 @@
 //! What the library must say where the reference says this, in the library's types.
 
-use combgallop::{Answer, Fault, Finding, Order, Profile, Refusal, Verdict};
+use combgallop::{Answer, BadCode, Fault, Finding, Order, Profile, Refusal, Verdict};
 
 /// Refusal 11, "output shorter than the exact need".
 pub const SHORT_OUTPUT: reference::Refusal = reference::Refusal {
@@ -46,10 +46,12 @@ pub fn expected_refusal(refusal: reference::Refusal) -> Refusal {
         (7, 24) => Refusal::Damage(Fault::OnChain),
         (7, 25) => Refusal::Damage(Fault::BadFill),
         (7, 26) => Refusal::Damage(Fault::BadRedzone),
-        (7, 27) => Refusal::Damage(Fault::BadSizeCode),
+        (7, 27) => Refusal::Damage(Fault::BadSizeCode(BadCode::Remainder)),
         (7, 28) => Refusal::Damage(Fault::Overrun),
         (7, 29) => Refusal::BrokenHead,
         (7, 30) => Refusal::Damage(Fault::BadHeader),
+        (7, 31) => Refusal::Damage(Fault::BadSizeCode(BadCode::Zero)),
+        (7, 32) => Refusal::Damage(Fault::BadSizeCode(BadCode::Above)),
         (8, 0) => Refusal::NotAllocated,
         (9, 0) => Refusal::OtherGrant,
         (10, 0) => Refusal::PastClient,
@@ -57,6 +59,15 @@ pub fn expected_refusal(refusal: reference::Refusal) -> Refusal {
         (12, 0) => Refusal::WideStamp,
         (13, 0) => Refusal::NoThread,
         _ => panic!("no call is refused so by the rules: {refusal:?}"),
+    }
+}
+
+/// How a size code is bad, as the library's type names it.
+fn expected_hurt(hurt: reference::CodeHurt) -> BadCode {
+    match hurt {
+        reference::CodeHurt::WrongRemainder => BadCode::Remainder,
+        reference::CodeHurt::SizeZero => BadCode::Zero,
+        reference::CodeHurt::AboveBufferSize => BadCode::Above,
     }
 }
 
@@ -74,7 +85,7 @@ pub fn expected_finding(finding: &reference::Finding) -> Finding {
         Second::AllocatedMet => Verdict::OnChain,
         Second::FillDiffers(offset) => Verdict::BadFill(offset),
         Second::RedzoneDiffers(offset) => Verdict::BadRedzone(offset),
-        Second::BadSizeCode => Verdict::BadSizeCode,
+        Second::BadSizeCode(hurt) => Verdict::BadSizeCode(expected_hurt(hurt)),
         Second::GuardDiffers(offset) => Verdict::Overrun(offset),
         Second::BadHeader => Verdict::BadHeader,
     };

@@ -123,7 +123,7 @@ fn every_small_size_code() {
         let found = compare(image, 9, &mut sequence, image);
         note(&mut counts, image, found);
     });
-    let wanted = [Met::Verdict(2), Met::Verdict(27), Met::Verdict(28)];
+    let wanted = [2, 27, 28, 31, 32].map(Met::Verdict);
     let title = "inspect, every small size code";
     counts.finish_with(title, SEED, &wanted, &[HEADER_VERDICT]);
 }

@@ -3,6 +3,7 @@
 
 mod area_lengths;
 mod calls;
+mod corner;
 mod counts;
 mod crossed;
 mod expected;
@@ -12,6 +13,7 @@ mod latest;
 mod lent;
 mod long;
 mod report;
+mod size_code;
 mod survey;
 mod umem;
 mod userland;

@@ -1,119 +1,24 @@
 //! The corners of the userland profile, each held to its rule and not to the reference
 //! alone: the header, the coded size, and verdict 30.
 
-use combgallop::{Fault, Grant, Refusal};
-use differential::{Form, Image, Sequence, Shape, KERNEL_FORMS, USER_FORMS};
+use combgallop::{Grant, Refusal};
+use differential::{Form, KERNEL_FORMS, USER_FORMS};
 
-use crate::calls::{Call, Twin};
-use crate::counts::{Counts, Met};
-use crate::inspect;
+use crate::corner::{allocate, free, fresh, show, store, Runner};
+use crate::counts::Met;
 
 const SEED: u64 = 0x3e81_c5d7;
-
-const BUFFER: u32 = 0x1000;
 
 /// What the two words of a header add up to.
 const HEADER_SUM: u32 = 0x3a10_c000;
 
 const REDZONE: u32 = 0xfeed_face;
 
-const BAD_HEADER: Refusal = Refusal::Damage(Fault::BadHeader);
-
-/// A fresh heap of two buffers.
-fn fresh(form: Form, size: usize) -> Image {
-    let shape = Shape {
-        cache: 0x70,
-        heap_base: BUFFER,
-        record_base: 0x2_0000,
-        size,
-        count: 2,
-    };
-    Image::laid_out(form, shape, [0; 5])
-}
-
-fn allocate(grant: Grant) -> Call {
-    Call::Allocate {
-        grant,
-        uptime: 5000,
-        thread: 0x40,
-    }
-}
-
-fn free(grant: Grant) -> Call {
-    Call::Free {
-        address: BUFFER,
-        grant,
-        uptime: 6000,
-        thread: 0x41,
-    }
-}
-
-fn store(offset: u32, length: usize) -> Call {
-    Call::Store {
-        address: BUFFER,
-        offset,
-        bytes: vec![0xbb; length],
-    }
-}
-
-fn show() -> Call {
-    Call::Show { address: BUFFER }
-}
-
-/// Runs and counts calls, so that each is compared in every byte.
-struct Runner {
-    sequence: Sequence,
-    counts: Counts,
-}
-
-impl Runner {
-    fn new() -> Runner {
-        Runner {
-            sequence: Sequence::new(SEED),
-            counts: Counts::default(),
-        }
-    }
-
-    /// Runs calls on an image, and answers what became of it and the last outcome.
-    fn run(&mut self, image: Image, calls: &[Call]) -> (Image, Result<u32, Refusal>) {
-        let mut outcome = Ok(0);
-        let origin = image.to_string();
-        let mut twin = Twin::new(image, &origin, &mut self.sequence);
-        for call in calls {
-            outcome = twin.run(call, &mut self.counts, &mut self.sequence);
-        }
-        (twin.image, outcome)
-    }
-
-    /// An image whose first buffer was granted so.
-    fn granted(&mut self, form: Form, size: usize, grant: Grant) -> Image {
-        let (image, outcome) = self.run(fresh(form, size), &[allocate(grant)]);
-        assert_eq!(outcome, Ok(BUFFER), "{form:?}, {grant:?} of {size}");
-        image
-    }
-
-    /// What the first buffer is found to be, by inspect and by the calls on it.
-    fn assert_found(&mut self, image: &Image, verdict: (u32, u32), story: &str) {
-        let found = inspect::compare(image, 6, &mut self.sequence, image).expect("findings");
-        let found_verdict = found[0].verdict;
-        let found_numbers = (found_verdict.number(), found_verdict.value());
-        assert_eq!(found_numbers, verdict, "{story}: {image}");
-        inspect::note(&mut self.counts, image, Ok(found));
-        if verdict.0 == 30 {
-            for call in [show(), store(0, 0), store(0, 1), free(Grant::Sized(1))] {
-                let (after, outcome) = self.run(image.clone(), std::slice::from_ref(&call));
-                assert_eq!(outcome, Err(BAD_HEADER), "{story}, {call:?}: {image}");
-                assert_eq!(after.bytes(), image.bytes(), "{story}, {call:?}");
-            }
-        }
-    }
-}
-
 /// "Requests run from 1 to buffer size less 8; any other size is refusal 6", so a buffer of
 /// 8 bytes has none. Some of these would wrap around with the header's 8 bytes.
 #[test]
 fn requests_that_no_buffer_has_room_for() {
-    let mut runner = Runner::new();
+    let mut runner = Runner::new(SEED);
     for form in USER_FORMS {
         for size in [8, 16, 24, 4096] {
             let most = size as u32 - 8;
@@ -134,7 +39,7 @@ fn requests_that_no_buffer_has_room_for() {
 /// "Whole grants have none": the client's bytes are the buffer's, also where there are 8.
 #[test]
 fn whole_grants_have_no_header() {
-    let mut runner = Runner::new();
+    let mut runner = Runner::new(SEED);
     for form in USER_FORMS {
         for size in [8, 24] {
             let mut image = runner.granted(form, size, Grant::Whole);
@@ -158,7 +63,7 @@ fn whole_grants_have_no_header() {
 /// request alone.
 #[test]
 fn every_lawful_request() {
-    let mut runner = Runner::new();
+    let mut runner = Runner::new(SEED);
     for form in USER_FORMS {
         for size in [16, 24, 32, 104] {
             for request in 1..=size as u32 - 8 {
@@ -218,7 +123,7 @@ fn use_request(runner: &mut Runner, form: Form, size: usize, request: u32) {
 /// The guard of the largest request is R0's first byte: 30 comes after 28 there too.
 #[test]
 fn largest_request() {
-    let mut runner = Runner::new();
+    let mut runner = Runner::new(SEED);
     for form in USER_FORMS {
         let image = runner.granted(form, 24, Grant::Sized(16));
         assert_eq!(image.heap[24], 0xbb, "{form:?}");
@@ -234,7 +139,7 @@ fn largest_request() {
 /// "And also when the coded size is below 9", with its guard, whatever the header is.
 #[test]
 fn coded_sizes_below_9() {
-    let mut runner = Runner::new();
+    let mut runner = Runner::new(SEED);
     for form in USER_FORMS {
         let granted = runner.granted(form, 24, Grant::Sized(5));
         for coded_size in 1..=8u32 {
@@ -255,13 +160,13 @@ fn coded_sizes_below_9() {
         image.heap[9] = 0xbb;
         runner.assert_found(&image, (2, 1), "coded size 9");
     }
-    runner.finish("userland, coded sizes below 9");
+    finish(&runner, "userland, coded sizes below 9");
 }
 
 /// Each byte of both words, to each other value.
 #[test]
 fn every_byte_of_a_header() {
-    let mut runner = Runner::new();
+    let mut runner = Runner::new(SEED);
     for form in USER_FORMS {
         for request in [1, 10, 16] {
             let mut image = runner.granted(form, 24, Grant::Sized(request));
@@ -277,14 +182,14 @@ fn every_byte_of_a_header() {
             runner.assert_found(&image, (2, request), "as it was");
         }
     }
-    runner.finish("userland, every byte of a header");
+    finish(&runner, "userland, every byte of a header");
 }
 
 /// Headers that go together in themselves: those of other sizes, and the right one in the
 /// other order.
 #[test]
 fn headers_of_other_sizes() {
-    let mut runner = Runner::new();
+    let mut runner = Runner::new(SEED);
     for form in USER_FORMS {
         let granted = runner.granted(form, 24, Grant::Sized(10));
         for coded_size in (0..40).chain([18 + 0x100, 18 + 0x1_0000, u32::MAX]) {
@@ -298,14 +203,14 @@ fn headers_of_other_sizes() {
         image.heap[4..8].reverse();
         runner.assert_found(&image, (30, 0), "header in the other order");
     }
-    runner.finish("userland, headers of other sizes");
+    finish(&runner, "userland, headers of other sizes");
 }
 
 /// "Verdict 30 comes after 28": with a wrong header the code, the guard and the redzone are
 /// judged before it.
 #[test]
 fn header_is_judged_last() {
-    let mut runner = Runner::new();
+    let mut runner = Runner::new(SEED);
     for form in USER_FORMS {
         let mut image = runner.granted(form, 24, Grant::Sized(10));
         image.heap[0] ^= 0x80;
@@ -321,14 +226,14 @@ fn header_is_judged_last() {
         whole.put_heap_word(whole.r1(0), REDZONE);
         runner.assert_found(&whole, (1, 0), "whole, so that it has no header");
     }
-    runner.finish("userland, the header is judged last");
+    finish(&runner, "userland, the header is judged last");
 }
 
 /// Under the kernel profile the first bytes are the client's, and a coded size of 1 to 8 is
 /// as good as any.
 #[test]
 fn kernel_images_have_no_header() {
-    let mut runner = Runner::new();
+    let mut runner = Runner::new(SEED);
     for form in KERNEL_FORMS {
         for request in 1..=9 {
             let mut image = runner.granted(form, 24, Grant::Sized(request));
@@ -341,15 +246,7 @@ fn kernel_images_have_no_header() {
     }
 }
 
-impl Runner {
-    /// Verdict 30 was met, and every call was refused by it.
-    fn finish(&self, title: &str) {
-        let wanted = [
-            Met::Verdict(30),
-            Met::Refused("show", 7, 30),
-            Met::Refused("store", 7, 30),
-            Met::Refused("free", 7, 30),
-        ];
-        self.counts.finish_in(&USER_FORMS, title, SEED, &wanted);
-    }
+/// Verdict 30 was met, and every call was refused by it.
+fn finish(runner: &Runner, title: &str) {
+    runner.finish_refused(&USER_FORMS, title, &[30]);
 }

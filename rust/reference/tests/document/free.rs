@@ -227,11 +227,11 @@ fn refusal_8_free_pattern() {
 }
 
 #[test]
-fn refusal_7_with_27_no_size_code() {
+fn refusal_7_with_27_31_or_32_no_size_code() {
     for form in FORMS {
-        for r1 in [0, 1, 0x139e, 0x1884] {
+        for (r1, detail) in [(0, 27), (1, 31), (0x139e, 27), (0x1884, 32)] {
             let image = dump_with_redzone(form, 0xfeedface, r1);
-            refuses(image, BUFFER_1, Grant::Whole, damaged(27));
+            refuses(image, BUFFER_1, Grant::Whole, damaged(detail));
         }
     }
 }

@@ -30,10 +30,10 @@ impl Sequence {
 }
 
 /// Words that mean something in the dump.
-const WORDS: [u32; 26] = [
+const WORDS: [u32; 28] = [
     0, 1, 0x139d, 0x1789, 0xfeedface, 0xbbedface, 0xfeedfabb, 0xdeadbeef, 0x70a9add8, 0x70a9ae00,
     0x70a9ae28, 0x70ae31a0, 0x70ae3200, 0x70ae3260, 0x8440c68e, 0xd1befaed, 0xffffffff, 0x70ae3204,
-    0x70ae3268, 0x8440c686, 0xd1befae9, 0x14, 0x18, 0x3a10bfec, 0x3a10bfe8, 0x7d9,
+    0x70ae3268, 0x8440c686, 0xd1befae9, 0x14, 0x18, 0x3a10bfec, 0x3a10bfe8, 0x7d9, 0x139e, 0x1884,
 ];
 
 /// The dump in some form with a few words and bytes changed, and now and then an area
@@ -41,7 +41,7 @@ const WORDS: [u32; 26] = [
 fn some_image(sequence: &mut Sequence) -> Image {
     let mut image = dump(FORMS[sequence.below(6) as usize]);
     for _ in 0..sequence.below(5) {
-        let word = WORDS[sequence.below(26) as usize];
+        let word = WORDS[sequence.below(28) as usize];
         match sequence.below(12) {
             0..=3 => image.put_heap(4 * sequence.below(30) as usize, word),
             4..=7 => {
@@ -78,7 +78,7 @@ fn some_word(sequence: &mut Sequence) -> u32 {
     match sequence.below(4) {
         0 => sequence.word(),
         1 => sequence.below(30),
-        _ => WORDS[sequence.below(26) as usize],
+        _ => WORDS[sequence.below(28) as usize],
     }
 }
 

@@ -14,6 +14,7 @@ mod program;
 mod refusals;
 mod report;
 mod sheet;
+mod size_code;
 mod store_show;
 mod thread;
 mod userland;

@@ -135,7 +135,7 @@ fn faults_with_and_without_offset() {
         image.heap[CHUNK[2] + 29] = 0;
         assert_eq!(
             text(&image),
-            "heap report 1\n0 fault 25 9\n1 fault 27\n2 fault 26 29\nchain 2 end\nfaults 3\n"
+            "heap report 1\n0 fault 25 9\n1 fault 31\n2 fault 26 29\nchain 2 end\nfaults 3\n"
         );
     }
 }

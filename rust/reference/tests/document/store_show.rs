@@ -212,9 +212,18 @@ fn refusal_8_free_pattern() {
 }
 
 #[test]
-fn refusal_7_with_27_and_28() {
+fn refusal_7_with_27_31_or_32_no_size_code() {
     for form in FORMS {
-        both_refuse(dump_with_redzone(form, 0xfeedface, 0x139e), BUFFER_1, 7, 27);
+        for (r1, detail) in [(0, 27), (1, 31), (0x139e, 27), (0x1884, 32)] {
+            let image = dump_with_redzone(form, 0xfeedface, r1);
+            both_refuse(image, BUFFER_1, 7, detail);
+        }
+    }
+}
+
+#[test]
+fn refusal_7_with_28_guard_or_redzone() {
+    for form in FORMS {
         both_refuse(dump_with_redzone(form, 0xfeedface, 0x1789), BUFFER_1, 7, 28);
         let mut image = dump_full(form);
         image.put_heap(CHUNK[1] + R0, 0xfeedface);

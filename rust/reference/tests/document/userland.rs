@@ -237,9 +237,9 @@ fn verdict_30_in_a_buffer_of_8_bytes() {
         image.heap[..16].copy_from_slice(&form.words(&words));
         assert_eq!(verdict(&image, 0), (30, 0));
         assert_eq!(shown(&image, HEAP_BASE), damaged(30));
-        // Coded size 9 is no size code of this buffer.
+        // Coded size 9 is above this buffer's size.
         image.put_heap(12, 0x8d4);
-        assert_eq!(verdict(&image, 0), (27, 0));
+        assert_eq!(verdict(&image, 0), (32, 0));
     }
 }
 

@@ -1,7 +1,8 @@
-//! Verdicts 0 to 28 and the checks P1 to P10, in both orders and under both profiles.
+//! Verdicts 0 to 28 and the checks P1 to P10 (P6 is 31 and P8 is 32), in both orders and
+//! under both profiles.
 
 use crate::image::*;
-use reference::{inspect, Finding, Verdict};
+use reference::{inspect, CodeHurt, Finding, Verdict};
 
 /// The findings on the three buffers of an image.
 fn findings(image: &Image) -> [Finding; 3] {
@@ -88,9 +89,9 @@ fn p4_to_p9_redzone_words_of_the_allocated_pattern() {
             "P4"
         );
         assert_eq!(allocated_with(form, 0xfeedface, 0x139e), (27, 0), "P5");
-        assert_eq!(allocated_with(form, 0xfeedface, 1), (27, 0), "P6");
+        assert_eq!(allocated_with(form, 0xfeedface, 1), (31, 0), "P6");
         assert_eq!(verdicts(&dump_full(form))[1], (2, full_size(form)), "P7");
-        assert_eq!(allocated_with(form, 0xfeedface, 0x1884), (27, 0), "P8");
+        assert_eq!(allocated_with(form, 0xfeedface, 0x1884), (32, 0), "P8");
         // The word's high byte stands at 24 or, where the low byte stands first, at 27.
         let p9 = allocated_with(form, 0x00edface, 0xfeedface);
         assert_eq!(p9, (28, form.pick(24, 27)), "P9");
@@ -264,18 +265,10 @@ fn verdict_26_free_pattern_with_a_size_code() {
 #[test]
 fn verdict_27_codes_of_no_size() {
     for form in FORMS {
-        // 251 = 0xfb has remainder 0 and 253 = 0xfd has 2; 0xffffff86 = 251 * 17111423 + 1
-        // has remainder 1, but no buffer is that large. The last two are the size code
-        // 0x139d and the redzone word 0xfeedface the other way round.
-        for r1 in [
-            0,
-            0xfb,
-            0xfd,
-            0xffff_ff86,
-            0xfeed_facf,
-            0x9d13_0000,
-            0xcefa_edfe,
-        ] {
+        // 251 = 0xfb has remainder 0 and 253 = 0xfd has 2. The last two are the size code
+        // 0x139d and the redzone word 0xfeedface the other way round, of remainders 20
+        // and 56.
+        for r1 in [0, 0xfb, 0xfd, 0xfeed_facf, 0x9d13_0000, 0xcefa_edfe] {
             assert_eq!(allocated_with(form, 0xfeedface, r1), (27, 0));
         }
     }
@@ -356,7 +349,7 @@ fn client_that_stores_the_free_fill_is_still_allocated() {
 /// What stands in a row that no call may touch.
 const KEPT: Finding = Finding {
     index: 77,
-    verdict: Verdict::BadSizeCode,
+    verdict: Verdict::BadSizeCode(CodeHurt::AboveBufferSize),
 };
 
 #[test]

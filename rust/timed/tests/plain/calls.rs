@@ -32,7 +32,7 @@ const ALLOCATE: [(u8, u8); 12] = [
 ];
 
 /// And free.
-const FREE: [(u8, u8); 10] = [
+const FREE: [(u8, u8); 12] = [
     (1, 0),
     (2, 0),
     (3, 0),
@@ -41,6 +41,8 @@ const FREE: [(u8, u8); 10] = [
     (7, 21),
     (8, 0),
     (7, 27),
+    (7, 31),
+    (7, 32),
     (7, 28),
     (9, 0),
 ];
@@ -192,9 +194,9 @@ fn neighbours_of_the_dump() {
     each_neighbour(&KERNEL_FORMS, |image| {
         run_all(image, calls, image, &mut counts, &mut sequence);
     });
-    // These sizes are lawful.
-    let unlawful_size = refusal("allocate", (6, 0));
-    let wanted = answers().filter(|met| *met != unlawful_size);
+    // These sizes are lawful, and a size code is 1 only when more than one byte is written.
+    let never = [refusal("allocate", (6, 0)), refusal("free", (7, 31))];
+    let wanted = answers().filter(|met| !never.contains(met));
     counts.finish("calls, neighbours of the dump", SEED, wanted);
 }
 
@@ -229,7 +231,7 @@ fn every_small_size_code() {
         let calls = [free(BUFFER, image.told_grant(1))];
         run_all(image, calls, image, &mut counts, &mut sequence);
     });
-    let wanted = refusals("free", &[(7, 27), (7, 28)]);
+    let wanted = refusals("free", &[(7, 27), (7, 31), (7, 32), (7, 28)]);
     let wanted = wanted.chain([accepted("free")]);
     counts.finish("calls, every small size code", SEED, wanted);
 }

@@ -16,15 +16,15 @@ returns c =
     rw (← i .before .read-u32 .ensures, eq-eqb _ _ (i .if1 .taken), ← t .turn4 .ensures) (c .judge-zone .ensures Whole (c .before .tell .ensures))
 
 judge-sized-requires : tie.Need-judge-sized-requires
-judge-sized-requires c κs = (search needs, decoded-within _ _ _ (sym (c .before .before .before .decode .ensures) ∙ c .before .code .given .1) .1)
+judge-sized-requires c κs = (search needs, decoded-within _ _ _ (sym (c .before .before .before .decode .ensures) ∙ c .before .code2 .given .1) .1)
 
 returns-2 : tie.Need-returns-2
 unfolding codedVerdict
 returns-2 c =
-    let e = c .before in
-    let d = e .before .before in
+    let m = c .before .before in
+    let d = m .before .before in
     let i = d .before in
-    rw (← i .before .read-u32 .ensures, ne-eqb _ _ (i .if1 .left), ← d .decode .ensures, e .enum-told .given .1) (c .tell2 .ensures)
+    rw (← i .before .read-u32 .ensures, ne-eqb _ _ (i .if1 .left), ← d .decode .ensures, m .code .given .1) (c .tell2 .ensures)
 
 returns-3 : tie.Need-returns-3
 unfolding codedVerdict
@@ -32,7 +32,7 @@ returns-3 c =
     let m = c .before .before in
     let d = m .before .before in
     let i = d .before in
-    rw (← i .before .read-u32 .ensures, ne-eqb _ _ (i .if1 .left), ← d .decode .ensures, m .code .given .1) (c .judge-sized .ensures)
+    rw (← i .before .read-u32 .ensures, ne-eqb _ _ (i .if1 .left), ← d .decode .ensures, m .code2 .given .1) (c .judge-sized .ensures)
 
 pub judge-coded-spec : {M : Type 1} → statement M
 judge-coded-spec =

@@ -1,7 +1,5 @@
 -- Each test of the code is one of the rule's, in its order. Assumes nothing.
-use Prim.Native.Nat.{_/_}
-use native.Mathlib.Omega.{arith}
-use borrow.Author.Tests.{eq-eqb, ne-eqb, le-leb, lt-leb}
+use borrow.Author.Tests.{eq-eqb, ne-eqb, lt-ltb, le-ltb}
 use Rattle.tags.specs.SizeCode.{decodedOf}
 use Rattle.tags.proofs.size_code.decode.Statement.{statement}
 use Rattle.tags.proofs.size_code.decode.Tie as tie
@@ -16,11 +14,11 @@ returns-2 c = rw (eq-eqb _ _ (c .before .if1 .left), c .if2 .taken)
 
 returns-3 : tie.Need-returns-3
 unfolding decodedOf
-returns-3 c = rw (eq-eqb _ _ (c .before .before .if1 .left), le-leb 1 (c .before .before .before .args .code / 251) (omega arith), lt-leb _ _ (c .if3 .taken))
+returns-3 c = rw (eq-eqb _ _ (c .before .before .if1 .left), ne-eqb _ _ (c .before .if2 .left), lt-ltb _ _ (c .if3 .taken))
 
 returns-4 : tie.Need-returns-4
 unfolding decodedOf
-returns-4 c = rw (eq-eqb _ _ (c .before .before .if1 .left), le-leb 1 (c .before .before .before .args .code / 251) (omega arith), le-leb _ _ (c .if3 .left))
+returns-4 c = rw (eq-eqb _ _ (c .before .before .if1 .left), ne-eqb _ _ (c .before .if2 .left), le-ltb _ _ (c .if3 .left))
 
 pub decode-spec : {M : Type 1} → statement M
 decode-spec = tie.close (tie.spec returns returns-2 returns-3 returns-4)

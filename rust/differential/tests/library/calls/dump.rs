@@ -106,14 +106,17 @@ fn run_all(
     }
 }
 
-/// What one byte of the dump doesn't bring about: the two patterns are far apart, and
-/// these arguments are lawful.
-const NOT_NEAR: [Met; 5] = [
+/// What one byte of the dump doesn't bring about: the two patterns are far apart, these
+/// arguments are lawful, and the code of size 0 differs from that of another in two bytes.
+const NOT_NEAR: [Met; 8] = [
     Met::Refused("allocate", 6, 0),
     Met::Refused("free", 8, 0),
     Met::Refused("free", 9, 0),
     Met::Refused("store", 8, 0),
     Met::Refused("store", 10, 0),
+    Met::Refused("free", 7, 31),
+    Met::Refused("store", 7, 31),
+    Met::Refused("show", 7, 31),
 ];
 
 /// Each byte of the sheet, the heap and the records, changed to each other value.
@@ -244,11 +247,9 @@ fn calls_on_every_small_size_code() {
         let origin = format!("dump, R0 {r0:#x}, R1 {r1:#x}, {fill:#x} before them");
         run_all(image, &calls, &origin, &mut counts, &mut sequence);
     });
-    let wanted = [
-        Met::Accepted("free"),
-        Met::Refused("free", 7, 27),
-        Met::Refused("free", 7, 28),
-    ];
+    let calls = ["show", "store", "free"];
+    let refused = [27, 31, 32, 28].map(|detail| calls.map(|call| Met::Refused(call, 7, detail)));
+    let wanted = [refused.concat(), calls.map(Met::Accepted).to_vec()].concat();
     let title = "calls, every small size code";
     counts.finish_with(title, SEED, &wanted, &header_answers());
 }

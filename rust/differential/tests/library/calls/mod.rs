@@ -35,7 +35,7 @@ const TAKING: [(u8, u8); 8] = [
 ];
 
 /// What free, store and show can give besides.
-const HOLDING: [(u8, u8); 5] = [(4, 0), (7, 21), (8, 0), (7, 27), (7, 28)];
+const HOLDING: [(u8, u8); 7] = [(4, 0), (7, 21), (8, 0), (7, 27), (7, 31), (7, 32), (7, 28)];
 
 /// All that a call can answer, by the rules of both profiles.
 fn answers(call: &'static str) -> Vec<Met> {
