@@ -104,17 +104,40 @@ pub fn grant_full_size(image: &mut Image, sequence: &mut Sequence) {
     }
 }
 
-/// R1 is a code of size 0, of a size too large, of a wrong remainder, of another size,
-/// or any word. With 17,111,423 the code is the largest there is.
+fn put_code(image: &mut Image, code: u32, sequence: &mut Sequence) {
+    let at = image.r1(some_tagged(image, ALLOCATED_TAG, sequence));
+    image.put_heap_word(at, code);
+}
+
+/// R1 is the code of another size, says that the grant is whole, or is any word.
 pub fn change_size_code(image: &mut Image, sequence: &mut Sequence) {
+    let another = sequence.between(1, image.shape.size) as u32;
+    let any = sequence.word();
+    let code = sequence.pick(&[251 * another + 1, REDZONE, any]);
+    put_code(image, code, sequence);
+}
+
+/// R1 has a wrong remainder: that of no size, of a lawful one, or of one above.
+pub fn change_remainder(image: &mut Image, sequence: &mut Sequence) {
     let size = image.shape.size as u32;
     let another = sequence.between(1, image.shape.size) as u32;
-    let coded = sequence.pick(&[0, size + 1, 2 * size, 17_111_423, another]);
-    let wrong_remainder = 251 * another + sequence.pick(&[0, 2, 3, 125, 250]);
-    let any = sequence.word();
-    let r1 = sequence.pick(&[251 * coded + 1, wrong_remainder, 0, REDZONE, any]);
-    let at = image.r1(some_tagged(image, ALLOCATED_TAG, sequence));
-    image.put_heap_word(at, r1);
+    let coded = sequence.pick(&[0, another, another, size + 1]);
+    let code = 251 * coded + sequence.pick(&[0, 2, 3, 125, 250]);
+    put_code(image, code, sequence);
+}
+
+pub fn code_size_zero(image: &mut Image, sequence: &mut Sequence) {
+    put_code(image, 1, sequence);
+}
+
+/// R1 is the code of a size that is too large: by little, or such that it would be lawful
+/// if fewer of its bits were read. With 17,111,423 the code is the largest there is.
+pub fn code_size_above(image: &mut Image, sequence: &mut Sequence) {
+    let size = image.shape.size as u32;
+    let near = [size + 1, size + 8, size + 9, 2 * size];
+    let far = [size + 0x1000, size + 0x1_0000, 17_111_423];
+    let coded = sequence.pick(&[&near[..], &far].concat());
+    put_code(image, 251 * coded + 1, sequence);
 }
 
 pub fn change_guard(image: &mut Image, sequence: &mut Sequence) {

@@ -17,7 +17,7 @@ use crate::{Image, Sequence, Shape};
 pub type Hurt = (&'static str, fn(&mut Image, &mut Sequence));
 
 /// Every way there is.
-pub const HURTS: [Hurt; 53] = [
+pub const HURTS: [Hurt; 56] = [
     ("sheet: tag", sheet::change_tag),
     ("sheet: length of a field", sheet::change_field_length),
     ("sheet: fields out of order", sheet::exchange_fields),
@@ -61,6 +61,9 @@ pub const HURTS: [Hurt; 53] = [
     ("allocated: redzone", chunk::change_granted_redzone),
     ("allocated: full size, any R0", chunk::grant_full_size),
     ("allocated: size code", chunk::change_size_code),
+    ("allocated: size code, remainder", chunk::change_remainder),
+    ("allocated: size code of size 0", chunk::code_size_zero),
+    ("allocated: size code above", chunk::code_size_above),
     ("allocated: guard byte", chunk::change_guard),
     ("allocated: client stores the free fill", chunk::store_fill),
     ("allocated: bytes not judged", chunk::change_unjudged),
