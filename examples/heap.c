@@ -23,6 +23,18 @@ static int print_report(bool userland)
     return cg_refusal(answer);
 }
 
+/* Hurts a buffer of 24 bytes, granted with 20, in two ways. */
+static int hurt_buffer(uint8_t *chunk)
+{
+    chunk[20] = 0; /* one byte past its end, where the guard stands */
+    if (print_report(false))
+        return 1;
+    chunk[20] = 0xbb;
+    chunk[30] = 0; /* the word at 28, which was 00 00 13 9d, codes the size; now it codes 0 */
+    chunk[31] = 1;
+    return print_report(false);
+}
+
 static int use_kernel(void)
 {
     if (cg_lay_out(false, low_first, 0x70, heap_base, record_base, 24, 3, sheet, sizeof sheet,
@@ -47,8 +59,7 @@ static int use_kernel(void)
            (const char *)heap + (buffer - heap_base));
     if (print_report(false))
         return 1;
-    heap[buffer - heap_base + 20] = 0; /* one byte past its end */
-    return print_report(false);
+    return hurt_buffer(heap + (buffer - heap_base));
 }
 
 /* The same areas; the records are longer, and a grant of a size has a header. */

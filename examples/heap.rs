@@ -22,6 +22,17 @@ fn print_report(
     Ok(())
 }
 
+/// Hurts a buffer of 24 bytes, granted with 20, in two ways.
+fn hurt_buffer(sheet: &[u8], heap: &mut [u8], records: &[u8], start: usize) -> Result<(), Refusal> {
+    let profile = Profile::Kernel;
+    heap[start + 20] = 0; // one byte past its end, where the guard stands
+    print_report(profile, sheet, heap, records)?;
+    heap[start + 20] = 0xbb;
+    heap[start + 30] = 0; // the word at 28, which was 00 00 13 9d, codes the size; now it codes 0
+    heap[start + 31] = 1;
+    print_report(profile, sheet, heap, records)
+}
+
 fn use_kernel() -> Result<(), Refusal> {
     let (mut sheet, mut heap, mut records) = ([0; 52], [0; 3 * (24 + 16)], [0; 3 * 96]);
     let profile = Profile::Kernel;
@@ -68,8 +79,8 @@ fn use_kernel() -> Result<(), Refusal> {
         client.len()
     );
     print_report(profile, &sheet, &heap, &records)?;
-    heap[(buffer - HEAP_BASE) as usize + 20] = 0; // one byte past its end
-    print_report(profile, &sheet, &heap, &records)
+    let start = (buffer - HEAP_BASE) as usize;
+    hurt_buffer(&sheet, &mut heap, &records, start)
 }
 
 /// The records are longer, and a grant of a size has a header.

@@ -125,12 +125,20 @@ static double least(void)
     return least / (double)repeats;
 }
 
+/* A verdict's number; 31 and 32 are 27 in a build that does not tell bad size codes apart. */
+static uint32_t common(uint32_t number)
+{
+    return number == 31 || number == 32 ? 27 : number;
+}
+
 /* The same for the same rows, another for nearly all others. */
 static uint32_t sum_of_rows(void)
 {
     uint32_t sum = 2166136261u;
-    for (size_t i = 0; i < 3 * count; i++)
-        sum = (sum ^ rows[i]) * 16777619u;
+    for (size_t i = 0; i < 3 * count; i++) {
+        uint32_t number = i % 3 == 1 ? common(rows[i]) : rows[i];
+        sum = (sum ^ number) * 16777619u;
+    }
     return sum;
 }
 

@@ -135,6 +135,51 @@ static void judge_dump(void)
     fputs((const char *)output, stdout);
 }
 
+/* The dump's buffer 1: where it and its R1 stand in the heap, and its address and size. */
+enum { BUFFER_1 = 40, R1 = BUFFER_1 + 24 + 4, ADDRESS_1 = 0x70a9ae00, SIZE_1 = 20 };
+
+static const char *name_of(uint32_t verdict)
+{
+    switch (verdict) {
+    case CG_SIZE_CODE_REMAINDER:
+        return "wrong remainder";
+    case CG_SIZE_CODE_ZERO:
+        return "size zero";
+    case CG_SIZE_CODE_ABOVE:
+        return "above the buffer size";
+    default:
+        return "none of these";
+    }
+}
+
+/* What is found of buffer 1 by its size code, and what the calls on it answer. */
+static void judge_code(uint32_t code)
+{
+    uint32_t rows[ROWS] = {7, 7, 7, 7, 7, 7, 7, 7, 7, 7};
+    const uint8_t byte = 0;
+
+    put_word(heap + R1, code);
+    print_answer("inspect", cg_inspect(false, image, sheet_length, heap, HEAP, records, RECORDS,
+                                       rows, ROWS));
+    print_numbers("rows", rows, ROWS);
+    printf("%s\n", name_of(rows[4]));
+    print_answer("show", cg_show(false, image, sheet_length, heap, HEAP, records, RECORDS,
+                                 ADDRESS_1));
+    print_answer("store", cg_store(false, image, sheet_length, heap, HEAP, records, RECORDS,
+                                   ADDRESS_1, 0, &byte, 1));
+    print_answer("free", cg_free(false, image, sheet_length, heap, HEAP, records, RECORDS,
+                                 ADDRESS_1, false, SIZE_1, 0x33, 0x44));
+}
+
+/* The code of 20 and one more, that of 0, that of 25, and that of 20 again. */
+static void judge_codes(void)
+{
+    judge_code(251 * 20 + 2);
+    judge_code(1);
+    judge_code(251 * 25 + 1);
+    judge_code(251 * 20 + 1);
+}
+
 /* A fresh image of three buffers of 8 bytes. */
 enum { SHEET = CG_SHEET_LENGTH, FRESH_HEAP = 72, BASE = 0x1000, STEP = 24 };
 
@@ -343,6 +388,7 @@ int main(void)
         return 1;
     read_dump();
     judge_dump();
+    judge_codes();
     make_calls(false);
     make_calls(true);
     make_userland_calls(false);

@@ -50,6 +50,28 @@ chain 2 end
 faults 0
 ";
 
+/// The dump's buffer 1 by its size code: that of its size 20 and one more, whose remainder is
+/// wrong; that of size 0; that of 25, one above the buffer size; and its own, so that it is
+/// shown, stored to and freed.
+const CODES: &str = "\
+inspect 0 0 3\nrows 0 0 0 1 27 0 2 0 0 7\nwrong remainder
+show 7 27 0
+store 7 27 0
+free 7 27 0
+inspect 0 0 3\nrows 0 0 0 1 31 0 2 0 0 7\nsize zero
+show 7 31 0
+store 7 31 0
+free 7 31 0
+inspect 0 0 3\nrows 0 0 0 1 32 0 2 0 0 7\nabove the buffer size
+show 7 32 0
+store 7 32 0
+free 7 32 0
+inspect 0 0 3\nrows 0 0 0 1 2 20 2 0 0 7\nnone of these
+show 0 0 20
+store 0 0 0
+free 0 0 0
+";
+
 /// The calls on a fresh image that is high-first: four refused lay outs, two of them by
 /// the sheet's length, and one accepted, with the field of its order; the buffers at
 /// 4096, 4120 and 4144 granted with 5 bytes and whole, after a size too large and both
@@ -214,9 +236,10 @@ fn compiled() -> PathBuf {
 }
 
 /// All that it writes.
-const EXPECTED: [&str; 8] = [
+const EXPECTED: [&str; 9] = [
     DUMP,
     FOUND,
+    CODES,
     HIGH,
     LOW,
     USERLAND_HIGH,

@@ -38,7 +38,7 @@ fn reports_of_the_images() {
     }
 }
 
-/// So have the images in hexadecimal, each of them in both orders.
+/// So have the images in hexadecimal, two of them in both orders.
 #[test]
 fn reports_of_the_images_in_hexadecimal() {
     let samples = [
@@ -47,6 +47,7 @@ fn reports_of_the_images_in_hexadecimal() {
         ("low", "one"),
         ("hurt", "hurt"),
         ("hurt_low", "hurt"),
+        ("codes", "codes"),
     ];
     for (name, expected) in samples {
         let text = sample(&format!("{name}.hex"));
