@@ -152,7 +152,7 @@ allocated-two OffChain e = absurd (omega arith)
 allocated-two OnChain e = absurd (omega arith)
 allocated-two (BadFill o) e = absurd (omega arith)
 allocated-two (BadRedzone o) e = absurd (omega arith)
-allocated-two (BadSizeCode how) e = absurd (omega (arith, code-fault how))
+allocated-two (BadSizeCode how) e = absurd (omega (arith, code-fault how .0))
 allocated-two (Overrun o) e = absurd (omega arith)
 allocated-two BadHeader e = absurd (omega arith)
 

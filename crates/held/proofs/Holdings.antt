@@ -76,7 +76,7 @@ module _ (m : Image) (address : ℕ) (p : Spot)
   held-as-if (BadFill o) f = tt
   held-as-if (BadRedzone o) f = tt
   held-as-if (BadSizeCode how) f =
-      let k = code-fault how in
+      let k = code-fault how .0 in
       rw (ne-eqb (codeNumber how) 1 (λ e. omega arith), ne-eqb (codeNumber how) 2 (λ e. omega arith)) tt
   held-as-if (Overrun o) f = tt
   held-as-if BadHeader f = tt

@@ -17,7 +17,7 @@ use Rattle.tags.specs.declared.ending.Ending.the-variants.{End, Broken, Again}
 use Rattle.tags.specs.declared.verdict.Verdict.{Verdict}
 use Rattle.tags.specs.declared.verdict.Verdict.the-variants.{Free, Whole, Allocated, NotOneRecord, BadTag, FreedTwice, OffChain, OnChain}
 use Rattle.tags.specs.declared.verdict.Verdict.the-variants.{BadFill, BadRedzone, BadSizeCode, Overrun, BadHeader}
-use Rattle.tags.proofs.Verdicts.{code-small}
+use Rattle.tags.proofs.Verdicts.{code-fault}
 use Rattle.lines.specs.Text.{ascii, decimalWith, decimalOf, fieldOf, headerOf, hasOffset, faultLineOf, lineOf, linesOf, chainLineOf}
 use Rattle.lines.specs.Text.{faultOf, faultsIn, faultsOf, textOf, Wrote, writing, mostBuffers, lineMost, chainMost, faultsMost, longest}
 use Rattle.lines.specs.declared.text.Written.{Written}
@@ -142,7 +142,7 @@ verdict-small OffChain = lit≤ tt
 verdict-small OnChain = lit≤ tt
 verdict-small (BadFill o) = lit≤ tt
 verdict-small (BadRedzone o) = lit≤ tt
-verdict-small (BadSizeCode how) = code-small how
+verdict-small (BadSizeCode how) = code-fault how .1
 verdict-small (Overrun o) = lit≤ tt
 verdict-small BadHeader = lit≤ tt
 

@@ -9,16 +9,11 @@ use Rattle.tags.specs.declared.verdict.Verdict.{Verdict}
 use Rattle.tags.specs.declared.verdict.Verdict.the-variants.{Free, Whole, Allocated, NotOneRecord, BadTag, FreedTwice}
 use Rattle.tags.specs.declared.verdict.Verdict.the-variants.{OffChain, OnChain, BadFill, BadRedzone, BadSizeCode, Overrun, BadHeader}
 
--- however a size code is bad, it is a fault, whose number has two digits
-pub code-fault : (how : BadCode) → 20 ≤ codeNumber how
-code-fault Remainder = lit≤ tt
-code-fault Zero = lit≤ tt
-code-fault Above = lit≤ tt
-
-pub code-small : (how : BadCode) → codeNumber how < 100
-code-small Remainder = lit≤ tt
-code-small Zero = lit≤ tt
-code-small Above = lit≤ tt
+-- however a size code is bad, it is a fault, and its number has two digits
+pub code-fault : (how : BadCode) → (20 ≤ codeNumber how) × (codeNumber how < 100)
+code-fault Remainder = (lit≤ tt, lit≤ tt)
+code-fault Zero = (lit≤ tt, lit≤ tt)
+code-fault Above = (lit≤ tt, lit≤ tt)
 
 -- the numbers of a verdict tell it
 pub told-back : (v : Verdict) → ofTold (toldOf v) ≡ v

@@ -13,7 +13,7 @@ const SEED: u64 = 0x64d2_901b;
 
 const SIZES: [u32; 6] = [8, 16, 24, 112, 248, 4096];
 
-/// All but the right one, for a buffer of 24 bytes, and a few for the others.
+/// The right one, and some that are not.
 const SOME_REMAINDERS: [u32; 7] = [0, 1, 2, 3, 125, 249, 250];
 
 /// The largest quotient of a word, and its largest remainder: 251 x 17,111,423 + 122 is
@@ -71,43 +71,39 @@ fn judge(runner: &mut Runner, form: Form, size: u32, quotient: u32, remainder: u
             runner.assert_found(&image, (number, 0), &story);
             runner.assert_found(&ruined(&image), (number, 0), &story);
         }
-        // There is no guard at any offset, but R0's first byte may be taken for one that is
-        // hurt.
+        // A whole grant has no guard, so that of this size is missing.
         None => runner.assert_found(&image, (28, quotient), &story),
     }
+}
+
+/// Words of these quotients and remainders, in buffers of these sizes.
+fn judge_all(title: &str, sizes: &[u32], quotients: impl Fn(u32) -> Vec<u32>, remainders: &[u32]) {
+    let mut runner = Runner::new(SEED);
+    for form in FORMS {
+        for &size in sizes {
+            for quotient in quotients(size) {
+                for &remainder in remainders {
+                    judge(&mut runner, form, size, quotient, remainder);
+                }
+            }
+        }
+    }
+    runner.finish_refused(&FORMS, title, &[27, 31, 32, 28]);
 }
 
 /// Every way to be bad, at every end, before 28 and 30, and as the detail of every call.
 #[test]
 fn every_end() {
-    let mut runner = Runner::new(SEED);
-    for form in FORMS {
-        for size in SIZES {
-            for quotient in quotients(size) {
-                for remainder in SOME_REMAINDERS {
-                    judge(&mut runner, form, size, quotient, remainder);
-                }
-            }
-        }
-    }
-    runner.finish_refused(&FORMS, "size codes, every end", &[27, 31, 32, 28]);
+    judge_all("size codes, every end", &SIZES, quotients, &SOME_REMAINDERS);
 }
 
-/// Of two buffer sizes, every remainder of every quotient near the buffer's size and of the
-/// last two, up to the last word there is.
+/// Of two buffer sizes, every remainder of the first quotients, of those at the buffer's size
+/// and of the last two, up to the last word there is.
 #[test]
 fn every_remainder() {
-    let mut runner = Runner::new(SEED);
-    for form in FORMS {
-        for size in [8, 24] {
-            for quotient in [0, 1, size, size + 1, MOST.0 - 1, MOST.0] {
-                for remainder in 0..251 {
-                    judge(&mut runner, form, size, quotient, remainder);
-                }
-            }
-        }
-    }
-    runner.finish_refused(&FORMS, "size codes, every remainder", &[27, 31, 32, 28]);
+    let ends = |size| vec![0, 1, size, size + 1, MOST.0 - 1, MOST.0];
+    let remainders: Vec<u32> = (0..251).collect();
+    judge_all("size codes, every remainder", &[8, 24], ends, &remainders);
 }
 
 /// Any word with a right remainder, and the words beside it.
@@ -115,7 +111,7 @@ fn every_remainder() {
 fn any_quotient() {
     let mut runner = Runner::new(SEED);
     for form in FORMS {
-        for _ in 0..1_000 {
+        for _ in 0..300 {
             let quotient = runner.sequence.below(MOST.0 as usize) as u32;
             for remainder in [0, 1, 2] {
                 judge(&mut runner, form, 4096, quotient, remainder);

@@ -10,6 +10,7 @@ mod latest;
 mod lay_out;
 mod ledger;
 mod low_first;
+mod made;
 mod program;
 mod refusals;
 mod report;

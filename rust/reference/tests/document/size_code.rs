@@ -3,6 +3,7 @@
 //! profiles.
 
 use crate::image::*;
+use crate::made::*;
 use reference::*;
 
 /// Where the heap of one buffer and its record start.
@@ -12,22 +13,6 @@ const RECORD_BASE: u32 = 0x1_0000;
 /// One code of each hurt in a buffer of 24, of P5, P6 and P8, with its verdict:
 /// 0x139e = 251 * 20 + 2, 1 = 251 * 0 + 1 and 0x1884 = 251 * 25 + 1.
 const HURTS: [(u32, u8); 3] = [(0x139e, 27), (1, 31), (0x1884, 32)];
-
-/// The number and value of the verdict on one buffer.
-fn verdict(image: &Image, index: usize) -> (u32, u32) {
-    let mut rows = [Finding::default(); 3];
-    let profile = image.form.profile();
-    inspect(
-        profile,
-        &image.sheet,
-        &image.heap,
-        &image.records,
-        &mut rows,
-    )
-    .unwrap();
-    let verdict = rows[index].verdict;
-    (verdict.number(), verdict.value())
-}
 
 /// A verdict that has neither size nor offset.
 fn plain(number: u8) -> (u32, u32) {
@@ -63,44 +48,6 @@ fn one_out_sound(form: Form, size: usize, r1: u32, coded_size: usize) -> Image {
 fn put_header(image: &mut Image, at: usize, coded_size: u32) {
     image.put_heap(at, coded_size);
     image.put_heap(at + 4, 0x3a10c000 - coded_size);
-}
-
-fn allocated(image: &mut Image, grant: Grant) -> Result<u32, Refusal> {
-    let Image {
-        form,
-        sheet,
-        heap,
-        records,
-    } = image;
-    allocate(form.profile(), sheet, heap, records, grant, UPTIME, 1)
-}
-
-fn freed_by(thread: u32, image: &mut Image, address: u32, grant: Grant) -> Result<(), Refusal> {
-    let Image {
-        form,
-        sheet,
-        heap,
-        records,
-    } = image;
-    let profile = form.profile();
-    free(
-        profile, sheet, heap, records, address, grant, UPTIME, thread,
-    )
-}
-
-fn stored(image: &mut Image, address: u32, offset: u32, bytes: &[u8]) -> Result<(), Refusal> {
-    let Image {
-        form,
-        sheet,
-        heap,
-        records,
-    } = image;
-    store(form.profile(), sheet, heap, records, address, offset, bytes)
-}
-
-fn shown(image: &Image, address: u32) -> Result<Shown<'_>, Refusal> {
-    let profile = image.form.profile();
-    show(profile, &image.sheet, &image.heap, &image.records, address)
 }
 
 /// Expects one refusal of free, store and show, whatever else they ask for, be it a size

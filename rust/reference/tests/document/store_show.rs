@@ -1,29 +1,8 @@
 //! Store and show: the client's bytes and what is refused, in order, under both profiles.
 
 use crate::image::*;
-use reference::{show, store, Refusal, Shown};
-
-fn stored(image: &mut Image, address: u32, offset: u32, bytes: &[u8]) -> Result<(), Refusal> {
-    store(
-        image.form.profile(),
-        &image.sheet,
-        &mut image.heap,
-        &image.records,
-        address,
-        offset,
-        bytes,
-    )
-}
-
-fn shown(image: &Image, address: u32) -> Result<Shown<'_>, Refusal> {
-    show(
-        image.form.profile(),
-        &image.sheet,
-        &image.heap,
-        &image.records,
-        address,
-    )
-}
+use crate::made::*;
+use reference::*;
 
 /// Expects the same refusal of a store and a show, and every byte as before.
 fn both_refuse(mut image: Image, address: u32, number: u8, detail: u8) {

@@ -2,6 +2,7 @@
 //! and free care for it, and only for the one they are given.
 
 use crate::image::*;
+use crate::made::*;
 use reference::*;
 
 /// Thread words of the three records: each some thread, and each 0.
@@ -28,49 +29,25 @@ fn threads(image: &Image) -> [u32; 3] {
     })
 }
 
-fn allocated(image: &mut Image, thread: u32) -> Result<u32, Refusal> {
-    let Image {
-        form,
-        sheet,
-        heap,
-        records,
-    } = image;
-    let profile = form.profile();
-    allocate(profile, sheet, heap, records, Grant::Whole, UPTIME, thread)
-}
-
-fn freed(image: &mut Image, address: u32, grant: Grant, thread: u32) -> Result<(), Refusal> {
-    let Image {
-        form,
-        sheet,
-        heap,
-        records,
-    } = image;
-    let profile = form.profile();
-    free(
-        profile, sheet, heap, records, address, grant, UPTIME, thread,
-    )
-}
-
 /// "A fresh record has thread 0 and we must tell it from a used one."
 #[test]
 fn fresh_record_is_told_from_a_used_one() {
     for form in LONG_FORMS {
         let mut image = fresh(form, BUFFER_0, form.record(0), 24, 3);
         assert_eq!(threads(&image), [0, 0, 0]);
-        assert_eq!(allocated(&mut image, 0), refused(13));
+        assert_eq!(allocated_by(0, &mut image, Grant::Whole), refused(13));
         assert_eq!(threads(&image), [0, 0, 0]);
-        assert_eq!(allocated(&mut image, 7), Ok(BUFFER_0));
+        assert_eq!(allocated_by(7, &mut image, Grant::Whole), Ok(BUFFER_0));
         assert_eq!(threads(&image), [7, 0, 0]);
-        assert_eq!(allocated(&mut image, 8), Ok(BUFFER_1));
+        assert_eq!(allocated_by(8, &mut image, Grant::Whole), Ok(BUFFER_1));
         assert_eq!(threads(&image), [7, 8, 0]);
-        assert_eq!(freed(&mut image, BUFFER_0, Grant::Whole, 0), refused(13));
+        assert_eq!(freed_by(0, &mut image, BUFFER_0, Grant::Whole), refused(13));
         assert_eq!(threads(&image), [7, 8, 0]);
-        assert_eq!(freed(&mut image, BUFFER_0, Grant::Whole, 9), Ok(()));
+        assert_eq!(freed_by(9, &mut image, BUFFER_0, Grant::Whole), Ok(()));
         assert_eq!(threads(&image), [9, 8, 0]);
         // Record 0 is the head again.
-        assert_eq!(allocated(&mut image, 0), refused(13));
-        assert_eq!(allocated(&mut image, 7), Ok(BUFFER_0));
+        assert_eq!(allocated_by(0, &mut image, Grant::Whole), refused(13));
+        assert_eq!(allocated_by(7, &mut image, Grant::Whole), Ok(BUFFER_0));
         assert_eq!(threads(&image), [7, 8, 0]);
     }
 }
@@ -81,18 +58,18 @@ fn thread_0_with_all_buffers_out() {
     for form in LONG_FORMS {
         let mut image = fresh(form, BUFFER_0, form.record(0), 24, 3);
         for address in [BUFFER_0, BUFFER_1, BUFFER_2] {
-            assert_eq!(allocated(&mut image, 1), Ok(address));
+            assert_eq!(allocated_by(1, &mut image, Grant::Whole), Ok(address));
         }
         let full = image.clone();
-        assert_eq!(allocated(&mut image, 0), refused(13));
-        assert_eq!(allocated(&mut image, 1), refused(5));
-        assert_eq!(freed(&mut image, BUFFER_1, Grant::Whole, 0), refused(13));
-        assert_eq!(allocated(&mut image, 0), refused(13));
-        assert_eq!(allocated(&mut image, 1), refused(5));
+        assert_eq!(allocated_by(0, &mut image, Grant::Whole), refused(13));
+        assert_eq!(allocated_by(1, &mut image, Grant::Whole), refused(5));
+        assert_eq!(freed_by(0, &mut image, BUFFER_1, Grant::Whole), refused(13));
+        assert_eq!(allocated_by(0, &mut image, Grant::Whole), refused(13));
+        assert_eq!(allocated_by(1, &mut image, Grant::Whole), refused(5));
         assert_eq!(image, full);
-        assert_eq!(freed(&mut image, BUFFER_1, Grant::Whole, 1), Ok(()));
-        assert_eq!(allocated(&mut image, 0), refused(13));
-        assert_eq!(allocated(&mut image, 1), Ok(BUFFER_1));
+        assert_eq!(freed_by(1, &mut image, BUFFER_1, Grant::Whole), Ok(()));
+        assert_eq!(allocated_by(0, &mut image, Grant::Whole), refused(13));
+        assert_eq!(allocated_by(1, &mut image, Grant::Whole), Ok(BUFFER_1));
     }
 }
 
@@ -100,9 +77,9 @@ fn thread_0_with_all_buffers_out() {
 fn record_with_thread_0_is_granted_and_freed() {
     for form in FORMS {
         let mut image = dump_with_threads(form, NOBODY);
-        assert_eq!(allocated(&mut image, 1), Ok(BUFFER_0));
+        assert_eq!(allocated_by(1, &mut image, Grant::Whole), Ok(BUFFER_0));
         let grant = Grant::Sized(dump_size(form));
-        assert_eq!(freed(&mut image, BUFFER_1, grant, 2), Ok(()));
+        assert_eq!(freed_by(2, &mut image, BUFFER_1, grant), Ok(()));
         assert_eq!(threads(&image), [0, 2, 1]);
     }
 }
@@ -112,9 +89,9 @@ fn record_with_thread_0_is_granted_and_freed() {
 fn record_of_another_thread_is_refused_to_thread_0() {
     for form in FORMS {
         let mut image = dump_with_threads(form, SOMEBODY);
-        assert_eq!(allocated(&mut image, 0), refused(13));
+        assert_eq!(allocated_by(0, &mut image, Grant::Whole), refused(13));
         let grant = Grant::Sized(dump_size(form));
-        assert_eq!(freed(&mut image, BUFFER_1, grant, 0), refused(13));
+        assert_eq!(freed_by(0, &mut image, BUFFER_1, grant), refused(13));
         assert_eq!(image, dump_with_threads(form, SOMEBODY));
     }
 }

@@ -2,6 +2,7 @@
 //! verdict 30, in both orders.
 
 use crate::image::*;
+use crate::made::*;
 use reference::*;
 
 /// The forms that lay out writes under the userland profile.
@@ -14,60 +15,6 @@ const RECORD_BASE: u32 = 0x1_0000;
 /// A fresh heap of one buffer.
 fn one_buffer(form: Form, size: u32) -> Image {
     fresh(form, HEAP_BASE, RECORD_BASE, size, 1)
-}
-
-fn granted(image: &mut Image, grant: Grant) -> Result<u32, Refusal> {
-    let Image {
-        form,
-        sheet,
-        heap,
-        records,
-    } = image;
-    allocate(form.profile(), sheet, heap, records, grant, UPTIME, 1)
-}
-
-fn freed(image: &mut Image, address: u32, grant: Grant) -> Result<(), Refusal> {
-    let Image {
-        form,
-        sheet,
-        heap,
-        records,
-    } = image;
-    free(form.profile(), sheet, heap, records, address, grant, 1, 1)
-}
-
-fn stored(image: &mut Image, address: u32, offset: u32, bytes: &[u8]) -> Result<(), Refusal> {
-    let Image {
-        form,
-        sheet,
-        heap,
-        records,
-    } = image;
-    store(form.profile(), sheet, heap, records, address, offset, bytes)
-}
-
-fn shown(image: &Image, address: u32) -> Result<Shown<'_>, Refusal> {
-    let profile = image.form.profile();
-    show(profile, &image.sheet, &image.heap, &image.records, address)
-}
-
-/// The number and value of the verdict on one buffer, under a profile.
-fn verdict_under(profile: Profile, image: &Image, index: usize) -> (u32, u32) {
-    let mut rows = [Finding::default(); 3];
-    inspect(
-        profile,
-        &image.sheet,
-        &image.heap,
-        &image.records,
-        &mut rows,
-    )
-    .unwrap();
-    let verdict = rows[index].verdict;
-    (verdict.number(), verdict.value())
-}
-
-fn verdict(image: &Image, index: usize) -> (u32, u32) {
-    verdict_under(image.form.profile(), image, index)
 }
 
 /// The dump with the coded size 1 to 23 in R1 of buffer 1, its guard, and the header of
@@ -102,7 +49,7 @@ fn worked_example_byte_for_byte() {
     ];
     for form in USER_FORMS {
         let mut image = dump(form);
-        assert_eq!(granted(&mut image, Grant::Sized(10)), Ok(BUFFER_0));
+        assert_eq!(allocated(&mut image, Grant::Sized(10)), Ok(BUFFER_0));
         let chunk = form.pick(high, low);
         assert_eq!(image.heap[..40], chunk);
         assert_eq!(image.heap[40..], dump(form).heap[40..]);
@@ -119,7 +66,7 @@ fn worked_example_byte_for_byte() {
 fn worked_example_is_stored_into_and_freed() {
     for form in USER_FORMS {
         let mut image = dump(form);
-        assert_eq!(granted(&mut image, Grant::Sized(10)), Ok(BUFFER_0));
+        assert_eq!(allocated(&mut image, Grant::Sized(10)), Ok(BUFFER_0));
         let mut expected = image.clone();
         expected.heap[8..18].fill(0xff);
         assert_eq!(stored(&mut image, BUFFER_0, 0, &[0xff; 10]), Ok(()));
@@ -153,7 +100,7 @@ fn smallest_and_largest_requests() {
         for (size, request, header, code) in cases {
             let mut image = one_buffer(form, size);
             let grant = Grant::Sized(request);
-            assert_eq!(granted(&mut image, grant), Ok(HEAP_BASE));
+            assert_eq!(allocated(&mut image, grant), Ok(HEAP_BASE));
             assert_eq!(image.heap[..8], form.words(&header));
             assert_eq!(image.heap[request as usize + 8], 0xbb);
             let size = size as usize;
@@ -186,12 +133,12 @@ fn refusal_6_on_both_sides_of_the_largest_request() {
             for request in [0, largest + 1, size, size + 1, u32::MAX - 8, u32::MAX] {
                 let mut image = one_buffer(form, size);
                 let before = image.clone();
-                let answer = granted(&mut image, Grant::Sized(request));
+                let answer = allocated(&mut image, Grant::Sized(request));
                 assert_eq!(answer, refused(6), "{size} {request}");
                 assert_eq!(image, before);
             }
             let mut image = one_buffer(form, size);
-            let answer = granted(&mut image, Grant::Sized(largest));
+            let answer = allocated(&mut image, Grant::Sized(largest));
             assert_eq!(answer, Ok(HEAP_BASE));
         }
     }
@@ -204,12 +151,12 @@ fn buffer_of_8_bytes_is_granted_whole_only() {
         for request in [0, 1, 2, 7, 8, 9, 16, u32::MAX - 7, u32::MAX] {
             let mut image = one_buffer(form, 8);
             let before = image.clone();
-            let answer = granted(&mut image, Grant::Sized(request));
+            let answer = allocated(&mut image, Grant::Sized(request));
             assert_eq!(answer, refused(6), "{request}");
             assert_eq!(image, before);
         }
         let mut image = one_buffer(form, 8);
-        assert_eq!(granted(&mut image, Grant::Whole), Ok(HEAP_BASE));
+        assert_eq!(allocated(&mut image, Grant::Whole), Ok(HEAP_BASE));
         let client = Shown {
             offset: 0,
             bytes: &form.words(&[0xbaddcafe, 0xbaddcafe]),
@@ -219,8 +166,8 @@ fn buffer_of_8_bytes_is_granted_whole_only() {
         assert_eq!(stored(&mut image, HEAP_BASE, 8, &[1]), refused(10));
         assert_eq!(verdict(&image, 0), (1, 0));
         // Refusal 6 comes before 5.
-        assert_eq!(granted(&mut image, Grant::Sized(1)), refused(6));
-        assert_eq!(granted(&mut image, Grant::Whole), refused(5));
+        assert_eq!(allocated(&mut image, Grant::Sized(1)), refused(6));
+        assert_eq!(allocated(&mut image, Grant::Whole), refused(5));
         assert_eq!(freed(&mut image, HEAP_BASE, Grant::Sized(8)), refused(9));
         assert_eq!(freed(&mut image, HEAP_BASE, Grant::Whole), Ok(()));
     }
@@ -232,7 +179,7 @@ fn buffer_of_8_bytes_is_granted_whole_only() {
 fn verdict_30_in_a_buffer_of_8_bytes() {
     for form in USER_LONG {
         let mut image = one_buffer(form, 8);
-        assert_eq!(granted(&mut image, Grant::Whole), Ok(HEAP_BASE));
+        assert_eq!(allocated(&mut image, Grant::Whole), Ok(HEAP_BASE));
         let words = [8, 0x3a10bff8, full_r0(form), 0x7d9];
         image.heap[..16].copy_from_slice(&form.words(&words));
         assert_eq!(verdict(&image, 0), (30, 0));
@@ -399,7 +346,7 @@ fn sized_grant_read_under_the_other_profile() {
     for form in [Form::High, Form::Low] {
         // The client's bytes are no header, until the client stores one.
         let mut image = one_buffer(form, 24);
-        assert_eq!(granted(&mut image, Grant::Sized(20)), Ok(HEAP_BASE));
+        assert_eq!(allocated(&mut image, Grant::Sized(20)), Ok(HEAP_BASE));
         let mut longer = image.clone();
         longer.form = form.pick(Form::UserHigh, Form::UserLow);
         assert_eq!(shown(&longer, HEAP_BASE), refused(3));
@@ -413,7 +360,7 @@ fn sized_grant_read_under_the_other_profile() {
     for form in USER_LONG {
         // The coded size is taken for the size, and the header for client bytes.
         let mut image = one_buffer(form, 24);
-        assert_eq!(granted(&mut image, Grant::Sized(12)), Ok(HEAP_BASE));
+        assert_eq!(allocated(&mut image, Grant::Sized(12)), Ok(HEAP_BASE));
         let mut shorter = image.clone();
         shorter.form = form.pick(Form::High, Form::Low);
         assert_eq!(shown(&shorter, HEAP_BASE), refused(3));
