@@ -113,10 +113,10 @@ pub decoded-within : (code most s : ℕ) → decodedOf code most ≡ Size s → 
 unfolding decodedOf
 decoded-within code most s e = go (not (eqb (code % 251) 1)) (eqb (code / 251) 0) (ltb most (code / 251)) refl refl e
   where
-    go : (r z a : Bool) → eqb (code / 251) 0 ≡ z → ltb most (code / 251) ≡ a
-        → cond r (Bad Remainder) (cond z (Bad Zero) (cond a (Bad Above) (Size (code / 251)))) ≡ Size s → (1 ≤ s) × (s ≤ most)
-    go true z a t u f = absurd (let z : _≡_ {A = ℕ} 0 1 = cc in omega arith)
-    go false true a t u f = absurd (let z : _≡_ {A = ℕ} 0 1 = cc in omega arith)
+    go : (wrong none above : Bool) → eqb (code / 251) 0 ≡ none → ltb most (code / 251) ≡ above
+        → cond wrong (Bad Remainder) (cond none (Bad Zero) (cond above (Bad Above) (Size (code / 251)))) ≡ Size s → (1 ≤ s) × (s ≤ most)
+    go true none above t u f = absurd (let z : _≡_ {A = ℕ} 0 1 = cc in omega arith)
+    go false true above t u f = absurd (let z : _≡_ {A = ℕ} 0 1 = cc in omega arith)
     go false false true t u f = absurd (let z : _≡_ {A = ℕ} 0 1 = cc in omega arith)
     go false false false t u f =
         let e : code / 251 ≡ s = cc in

@@ -4,26 +4,39 @@ use Rattle.tags.specs.Verdict.{ofTold}
 use Rattle.tags.proofs.verdict.of.Statement.{statement}
 use Rattle.tags.proofs.verdict.of.Tie as tie
 
--- the number is none of the fourteen before
+-- the number is none of the fourteen before; each of these facts has the ones before it in front
 returns-15 : tie.Need-returns-15
 unfolding ofTold
 returns-15 c =
-    let r = c .match .rest in
+    let n32 = c .match .rest in
+    let n31 = n32 .0 in
+    let n28 = n31 .0 in
+    let n27 = n28 .0 in
+    let n26 = n27 .0 in
+    let n25 = n26 .0 in
+    let n24 = n25 .0 in
+    let n23 = n24 .0 in
+    let n22 = n23 .0 in
+    let n21 = n22 .0 in
+    let n20 = n21 .0 in
+    let n2 = n20 .0 in
+    let n1 = n2 .0 in
+    let n0 = n1 .0 in
     rw (
-      ne-eqb _ 0 (r .0 .0 .0 .0 .0 .0 .0 .0 .0 .0 .0 .0 .0 .1),
-      ne-eqb _ 1 (r .0 .0 .0 .0 .0 .0 .0 .0 .0 .0 .0 .0 .1),
-      ne-eqb _ 2 (r .0 .0 .0 .0 .0 .0 .0 .0 .0 .0 .0 .1),
-      ne-eqb _ 20 (r .0 .0 .0 .0 .0 .0 .0 .0 .0 .0 .1),
-      ne-eqb _ 21 (r .0 .0 .0 .0 .0 .0 .0 .0 .0 .1),
-      ne-eqb _ 22 (r .0 .0 .0 .0 .0 .0 .0 .0 .1),
-      ne-eqb _ 23 (r .0 .0 .0 .0 .0 .0 .0 .1),
-      ne-eqb _ 24 (r .0 .0 .0 .0 .0 .0 .1),
-      ne-eqb _ 25 (r .0 .0 .0 .0 .0 .1),
-      ne-eqb _ 26 (r .0 .0 .0 .0 .1),
-      ne-eqb _ 27 (r .0 .0 .0 .1),
-      ne-eqb _ 28 (r .0 .0 .1),
-      ne-eqb _ 31 (r .0 .1),
-      ne-eqb _ 32 (r .1),
+      ne-eqb _ 0 (n0 .1),
+      ne-eqb _ 1 (n1 .1),
+      ne-eqb _ 2 (n2 .1),
+      ne-eqb _ 20 (n20 .1),
+      ne-eqb _ 21 (n21 .1),
+      ne-eqb _ 22 (n22 .1),
+      ne-eqb _ 23 (n23 .1),
+      ne-eqb _ 24 (n24 .1),
+      ne-eqb _ 25 (n25 .1),
+      ne-eqb _ 26 (n26 .1),
+      ne-eqb _ 27 (n27 .1),
+      ne-eqb _ 28 (n28 .1),
+      ne-eqb _ 31 (n31 .1),
+      ne-eqb _ 32 (n32 .1),
     )
 
 pub of-spec : {M : Type 1} → statement M
