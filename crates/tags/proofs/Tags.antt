@@ -8,11 +8,14 @@ use borrow.Author.Tests.{le-ltb, ltb-false, eqb-true, eqb-false, ne-eqb}
 use lib.Arith.{bin-ind}
 use lib.Bits.{bitXor, differ, xor-step, xor-shr, xor-mod}
 use lib.Dec.{eqb, ltb}
+use Rattle.words.proofs.Tests.{by-test}
 use Rattle.tags.specs.Tag.{tagOf, patternOf, patternWord, stateWord, freePattern, allocatedPattern, isFree, isAllocated}
 use Rattle.tags.specs.SizeCode.{codeOf, decodedOf}
 use Rattle.tags.specs.declared.tag.State.{State}
-use Rattle.tags.specs.declared.size_code.Decoded.the-variants.{Size, Bad}
+use Rattle.tags.specs.declared.size_code.BadCode.{BadCode}
 use Rattle.tags.specs.declared.size_code.BadCode.the-variants.{Remainder, Zero, Above}
+use Rattle.tags.specs.declared.size_code.Decoded.{Decoded}
+use Rattle.tags.specs.declared.size_code.Decoded.the-variants.{Size, Bad}
 use Rattle.tags.specs.declared.tag.State.the-variants as state
 use Rattle.tags.specs.declared.tag.Pattern.{Pattern}
 use Rattle.tags.specs.declared.tag.Pattern.the-variants as pattern
@@ -111,14 +114,18 @@ decode-code s most h k =
 -- a decoded size is one of the buffer's
 pub decoded-within : (code most s : ℕ) → decodedOf code most ≡ Size s → (1 ≤ s) × (s ≤ most)
 unfolding decodedOf
-decoded-within code most s e = go (not (eqb (code % 251) 1)) (eqb (code / 251) 0) (ltb most (code / 251)) refl refl e
+decoded-within code most s e =
+    by-test P (not (eqb (code % 251) 1)) (λ _. none Remainder)
+    (λ _. by-test P (eqb (code / 251) 0) (λ _. none Zero)
+    (λ some. by-test P (ltb most (code / 251)) (λ _. none Above)
+    (λ few f.
+    let z : code / 251 ≡ s = cc in
+    let n = eqb-false (code / 251) 0 some in
+    (omega arith, omega (arith, ltb-false most (code / 251) few)))))
+    e
   where
-    go : (wrong none above : Bool) → eqb (code / 251) 0 ≡ none → ltb most (code / 251) ≡ above
-        → cond wrong (Bad Remainder) (cond none (Bad Zero) (cond above (Bad Above) (Size (code / 251)))) ≡ Size s → (1 ≤ s) × (s ≤ most)
-    go true none above t u f = absurd (let z : _≡_ {A = ℕ} 0 1 = cc in omega arith)
-    go false true above t u f = absurd (let z : _≡_ {A = ℕ} 0 1 = cc in omega arith)
-    go false false true t u f = absurd (let z : _≡_ {A = ℕ} 0 1 = cc in omega arith)
-    go false false false t u f =
-        let e : code / 251 ≡ s = cc in
-        let n = eqb-false (code / 251) 0 t in
-        (omega arith, omega (arith, ltb-false most (code / 251) u))
+    P : Decoded → Type 0
+    P d = d ≡ Size s → (1 ≤ s) × (s ≤ most)
+
+    none : (how : BadCode) → P (Bad how)
+    none how f = absurd (let z : _≡_ {A = ℕ} 0 1 = cc in omega arith)

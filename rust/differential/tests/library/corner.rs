@@ -83,7 +83,7 @@ fn refused_by(number: u32) -> Option<Refusal> {
 
 /// Runs and counts calls, so that each is compared in every byte.
 pub struct Runner {
-    pub seed: u64,
+    seed: u64,
     pub sequence: Sequence,
     pub counts: Counts,
 }

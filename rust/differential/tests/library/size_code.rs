@@ -133,7 +133,8 @@ fn coded_sizes_in_userland() {
                 image.put_header(0, coded_size);
                 runner.assert_found(&image, (32, 0), "the request fits");
             }
-            for coded_size in 1..8 {
+            // In a buffer of 8 bytes the last guard is R0's first byte.
+            for coded_size in 1..=8 {
                 let mut image = with_code(&mut runner, form, size, 251 * coded_size + 1);
                 image.put_header(0, coded_size);
                 image.heap[coded_size as usize] = 0xbb;

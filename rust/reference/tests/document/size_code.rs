@@ -69,6 +69,17 @@ fn all_refuse(mut image: Image, address: u32, refusal: Refusal) {
     assert_eq!(image, before);
 }
 
+/// Expects this verdict of each of these codes in buffer 1 of the dump, and of its calls.
+fn all_are(number: u8, codes: &[u32]) {
+    for form in FORMS {
+        for &r1 in codes {
+            let image = dump_with_code(form, r1);
+            assert_eq!(verdict(&image, 1), plain(number), "{r1:x}");
+            all_refuse(image, BUFFER_1, damage(number));
+        }
+    }
+}
+
 /// Refusal 7 with its detail.
 fn damage(detail: u8) -> Refusal {
     Refusal { number: 7, detail }
@@ -142,13 +153,7 @@ fn verdict_27_wrong_remainder() {
         0xffff_ff87,
         0xffff_ffff,
     ];
-    for form in FORMS {
-        for r1 in codes {
-            let image = dump_with_code(form, r1);
-            assert_eq!(verdict(&image, 1), (27, 0), "{r1:x}");
-            all_refuse(image, BUFFER_1, damage(27));
-        }
-    }
+    all_are(27, &codes);
 }
 
 /// "32 above buffer size with a right remainder", up to the largest word that has it.
@@ -176,13 +181,7 @@ fn verdict_32_above_24() {
         0xffff_fe8b,
         0xffff_ff86,
     ];
-    for form in FORMS {
-        for r1 in codes {
-            let image = dump_with_code(form, r1);
-            assert_eq!(verdict(&image, 1), (32, 0), "{r1:x}");
-            all_refuse(image, BUFFER_1, damage(32));
-        }
-    }
+    all_are(32, &codes);
 }
 
 /// With no byte 0xbb in the chunk every good code is 28 at its size. The codes of 0, 1, 2
