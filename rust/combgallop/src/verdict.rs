@@ -4,9 +4,9 @@ use std::fmt::{Display, Formatter, Result as Written};
 
 use crate::{BadCode, Fault};
 
-/// The verdicts in the order of their numbers; a bad size code has one of three. A size is that which the client asked for,
-/// without a header; an offset is that of the first byte that differs, from the buffer's
-/// start. Only userland images have a header to be wrong.
+/// The verdicts in the order of their numbers; a bad size code has one of three. A size is
+/// that which the client asked for, without a header; an offset is that of the first byte
+/// that differs, from the buffer's start. Only userland images have a header to be wrong.
 #[derive(Clone, Copy, PartialEq, Eq, Debug)]
 pub enum Verdict {
     Free,
