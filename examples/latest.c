@@ -64,8 +64,9 @@ int main(int argc, char **argv)
     size_t log_length = length - sheet_length - heap_length - records_length;
     bool low_first = is_low_first(sheet, sheet_length);
 
+    uint32_t magazines[1] = {0}; /* a list of no words: the input has none */
     answer = cg_inspect(userland, sheet, sheet_length, heap, heap_length, records,
-                        records_length, rows, 3 * CG_BUFFERS_MOST);
+                        records_length, magazines, 0, rows, 3 * CG_BUFFERS_MOST);
     if (cg_refusal(answer))
         return refused(answer);
     for (uint32_t i = 0; i < cg_value(answer); i++) {

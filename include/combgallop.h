@@ -6,9 +6,16 @@
  * and write none. Any bytes of any length may be lent; an image that breaks the rules
  * is refused, with a number that says which rule. Each area is a pointer and then a
  * length, counted in elements. No pointer may be null: for an empty area, such as a log
- * of no rows, pass any pointer that is not null (a byte of your own, say) with length 0.
- * What a call writes to must be lent to that call alone and overlap no other area. No
- * call keeps what it was lent.
+ * of no rows or a list of no words, pass any pointer of its type that is not null (to a byte
+ * or a word of your own, say) with length 0. What a call writes to must be lent to that call
+ * alone and overlap no other area. No call keeps what it was lent.
+ *
+ * A buffer that was freed is on the chain of free buffers, or in a magazine and off the
+ * chain. The image does not say what the magazines hold: the calls that judge its buffers are
+ * lent a list of magazine words, each the address of a buffer, one behind the other in any
+ * sequence. They are 32-bit numbers and not bytes of the image, so that its order (below) does
+ * not hold for them. There may be at most as many words as buffers; where there are no
+ * magazines the list is empty.
  *
  * An image has an order: its numbers stand with the highest byte first, or with the
  * lowest. The sheet says which: its last field is 0 for high byte first and 1 for low
@@ -90,19 +97,22 @@ enum {
 };
 
 /*
- * Verdicts: what is found of a buffer. The first rule that holds gives the verdict, in the
- * order of the numbers, but that all three of the size code come before CG_OVERRUN. Under
- * the userland profile they speak of the coded size.
+ * Verdicts: what is found of a buffer. The first rule that holds gives the verdict: the
+ * faults in the order of their numbers, but that all three of the size code come before
+ * CG_OVERRUN, and then one of the first four. Under the userland profile they speak of the
+ * coded size. A buffer is listed as often as words of the magazine list are its address.
  */
 enum {
-    CG_FREE = 0,
+    CG_FREE = 0,                 /* free, on the chain and not listed */
     CG_WHOLE = 1,                /* allocated, the whole buffer */
     CG_ALLOCATED = 2,            /* allocated, with the size that was asked for */
+    CG_CACHED = 3,               /* free, off the chain and listed once */
     CG_NOT_ONE_RECORD = 20,      /* not exactly one record names the buffer; from here on faults */
     CG_BAD_TAG = 21,             /* the tag names another record, or has neither pattern */
-    CG_FREED_TWICE = 22,         /* the chain comes back to its record */
-    CG_OFF_CHAIN = 23,           /* free, but not on the chain */
-    CG_ON_CHAIN = 24,            /* allocated, but on the chain */
+    CG_FREED_TWICE = 22,         /* the chain comes back to its record, or it is listed twice or
+                                    more, or listed and on the chain */
+    CG_OFF_CHAIN = 23,           /* free, but neither on the chain nor listed */
+    CG_ON_CHAIN = 24,            /* allocated, but on the chain or listed */
     CG_BAD_FILL = 25,            /* written to after it was freed, with the first offset */
     CG_BAD_REDZONE = 26,         /* redzone of a free buffer written to, with the first offset */
     CG_SIZE_CODE_REMAINDER = 27, /* the size code is none: its remainder by 251 is not 1 */
@@ -117,8 +127,10 @@ enum {
     CG_BAD_SHEET = 1,      /* the sheet has neither form: length, tags, lengths of bodies */
     CG_BAD_NUMBER = 2,     /* a number of the sheet, or an argument of lay out, breaks a limit,
                               or the sheet's order is neither 0 nor 1 */
-    CG_BAD_LENGTH = 3,     /* an area or the log has a wrong length */
-    CG_NO_SUCH_BUFFER = 4, /* no buffer starts at the address, or the index is not below n */
+    CG_BAD_LENGTH = 3,     /* an area or the log has a wrong length, or there are more magazine
+                              words than buffers */
+    CG_NO_SUCH_BUFFER = 4, /* no buffer starts at the address, or at one of the magazine words,
+                              or the index is not below n */
     CG_NO_ROOM = 5,        /* the chain's head is 0 */
     CG_BAD_SIZE = 6,       /* size 0 or above the buffer size, less 8 in userland */
     CG_DAMAGE = 7,         /* damage; the detail is a verdict's number, or CG_BROKEN_HEAD */
@@ -172,33 +184,37 @@ uint64_t cg_area_lengths(bool userland,
                          uint32_t *lengths, size_t lengths_length);
 
 /*
- * Judges every buffer. Fills three numbers for each, in the order of the buffers: its
- * index, its verdict's number, and the verdict's size (verdict 2), which is the client's
- * request, or offset from the buffer's start (25, 26 and 28), else 0. Numbers past those
- * stay as they are.
+ * Judges every buffer, with a list of magazine words. Fills three numbers for each, in the
+ * order of the buffers: its index, its verdict's number, and the verdict's size (verdict 2),
+ * which is the client's request, or offset from the buffer's start (25, 26 and 28), else 0.
+ * Numbers past those stay as they are.
  *
  * Value: the count of buffers n.
- * Refusals: 1, 2, 3; 11 when rows_length is below three times n.
+ * Refusals: 1, 2; 3, also when magazines_length is above n; 4 when no buffer starts at a
+ * magazine word; 11 when rows_length is below three times n.
  */
 uint64_t cg_inspect(bool userland,
                     const uint8_t *sheet, size_t sheet_length,
                     const uint8_t *heap, size_t heap_length,
                     const uint8_t *records, size_t records_length,
+                    const uint32_t *magazines, size_t magazines_length,
                     uint32_t *rows, size_t rows_length);
 
 /*
- * Judges every buffer and walks the chain. Fills `rows` as cg_inspect does, and three
- * numbers of `chain`: how many records the chain meets; 0 when it ends, 1 when it is
- * broken, 2 when it comes back to a record already met; and the index of that record,
- * else 0. Numbers past those stay as they are.
+ * Judges every buffer, with a list of magazine words, and walks the chain. Fills `rows` as
+ * cg_inspect does, and three numbers of `chain`: how many records the chain meets; 0 when it
+ * ends, 1 when it is broken, 2 when it comes back to a record already met; and the index of
+ * that record, else 0. Numbers past those stay as they are.
  *
  * Value: the count of buffers n.
- * Refusals: 1, 2, 3; 11 when rows_length is below three times n or chain_length below 3.
+ * Refusals: 1, 2, 3 and 4 as cg_inspect gives them, but 3 also for the log; 11 when
+ * rows_length is below three times n or chain_length below 3.
  */
 uint64_t cg_survey(bool userland,
                    const uint8_t *sheet, size_t sheet_length,
                    const uint8_t *heap, size_t heap_length,
                    const uint8_t *records, size_t records_length,
+                   const uint32_t *magazines, size_t magazines_length,
                    const uint8_t *log, size_t log_length,
                    uint32_t *rows, size_t rows_length,
                    uint32_t *chain, size_t chain_length);
@@ -220,16 +236,19 @@ uint64_t cg_latest(bool userland,
                    uint32_t index, uint32_t now);
 
 /*
- * Writes the report: a first line, a line for each buffer, one for the chain and one
- * for the count of faults, each ended by a line feed. Bytes past it stay as they are.
+ * Writes the report, with a list of magazine words: a first line, a line for each buffer, one
+ * for the chain and one for the count of faults, each ended by a line feed. Bytes past it
+ * stay as they are.
  *
  * Value: the length of the report.
- * Refusals: 1, 2, 3; 11 when output_length is below that length.
+ * Refusals: 1, 2, 3 and 4 as cg_inspect gives them, but 3 also for the log; 11 when
+ * output_length is below that length.
  */
 uint64_t cg_report(bool userland,
                    const uint8_t *sheet, size_t sheet_length,
                    const uint8_t *heap, size_t heap_length,
                    const uint8_t *records, size_t records_length,
+                   const uint32_t *magazines, size_t magazines_length,
                    const uint8_t *log, size_t log_length,
                    uint8_t *output, size_t output_length);
 

@@ -2,7 +2,9 @@
  * Times cg_inspect of the library that this is linked with, on kernel images in files: a
  * sheet of the short form, the heap and the records. Prints a line for each: the nanoseconds
  * of one call, the least of many samples; a number that stands for all rows found; and the
- * file. With WITHOUT_PROFILE defined it is for a library from before there were profiles.
+ * file. With WITHOUT_MAGAZINES defined it is for a library from before there were magazine
+ * lists, and with WITHOUT_PROFILE for one from before there were profiles, which had no lists
+ * either. With others the list is empty.
  */
 #define _POSIX_C_SOURCE 199309L
 
@@ -15,8 +17,14 @@
 #include <stdlib.h>
 #include <time.h>
 
-#ifdef WITHOUT_PROFILE
+#if defined WITHOUT_PROFILE
 uint64_t cg_inspect(const uint8_t *sheet, size_t sheet_length,
+                    const uint8_t *heap, size_t heap_length,
+                    const uint8_t *records, size_t records_length,
+                    uint32_t *rows, size_t rows_length);
+#elif defined WITHOUT_MAGAZINES
+uint64_t cg_inspect(bool userland,
+                    const uint8_t *sheet, size_t sheet_length,
                     const uint8_t *heap, size_t heap_length,
                     const uint8_t *records, size_t records_length,
                     uint32_t *rows, size_t rows_length);
@@ -25,6 +33,7 @@ uint64_t cg_inspect(bool userland,
                     const uint8_t *sheet, size_t sheet_length,
                     const uint8_t *heap, size_t heap_length,
                     const uint8_t *records, size_t records_length,
+                    const uint32_t *magazines, size_t magazines_length,
                     uint32_t *rows, size_t rows_length);
 #endif
 
@@ -85,12 +94,16 @@ static void read_image(const char *file)
 
 static uint64_t inspect(void)
 {
-#ifdef WITHOUT_PROFILE
+#if defined WITHOUT_PROFILE
     return cg_inspect(sheet, sizeof sheet, heap, heap_length,
                       records, count * RECORD_LENGTH, rows, 3 * count);
-#else
+#elif defined WITHOUT_MAGAZINES
     return cg_inspect(false, sheet, sizeof sheet, heap, heap_length,
                       records, count * RECORD_LENGTH, rows, 3 * count);
+#else
+    static const uint32_t no_words[1] = {0};
+    return cg_inspect(false, sheet, sizeof sheet, heap, heap_length,
+                      records, count * RECORD_LENGTH, no_words, 0, rows, 3 * count);
 #endif
 }
 

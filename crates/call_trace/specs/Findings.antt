@@ -16,6 +16,6 @@ blank = record { index = 9; verdict = Whole }
 abbrev pub blanks : List Finding
 blanks = replicate 4 blank
 
--- the answer, and row k, of an inspection into four such rows
-abbrev pub seenOf : Profile → Areas → ℕ → Seen
-seenOf p a k = record { answer = inspectOf p a blanks .answer; finding = getD (inspectOf p a blanks .rows) k blank }
+-- the answer, and row k, of an inspection with the magazine list l into four such rows
+abbrev pub seenOf : Profile → Areas → List ℕ → ℕ → Seen
+seenOf p a l k = record { answer = inspectOf p a l blanks .answer; finding = getD (inspectOf p a l blanks .rows) k blank }

@@ -178,18 +178,30 @@ fn put_finding(f: Finding) {
     lines::end();
 }
 
-// Inspects, and tells what the call answered and each row of its findings.
-pub(crate) fn inspect(profile: Profile, sheet: &SheetArea, heap: &HeapArea, records: &[u8]) {
-    let first = findings::look(profile, sheet, heap, records, 0);
+// Inspects with a magazine list, and tells what the call answered and each row of its findings.
+pub(crate) fn inspect_listed(
+    profile: Profile,
+    sheet: &SheetArea,
+    heap: &HeapArea,
+    records: &[u8],
+    magazines: &[u32],
+) {
+    let first = findings::look(profile, sheet, heap, records, magazines, 0);
     let answer = first.answer;
     put_inspected(answer);
     let mut k = 0;
     while k < 4 {
-        let found = findings::look(profile, sheet, heap, records, k);
+        let found = findings::look(profile, sheet, heap, records, magazines, k);
         let f = found.finding;
         put_finding(f);
         k += 1;
     }
+}
+
+// The same with an empty list.
+pub(crate) fn inspect(profile: Profile, sheet: &SheetArea, heap: &HeapArea, records: &[u8]) {
+    let none = [0u32; 0];
+    inspect_listed(profile, sheet, heap, records, &none);
 }
 
 // The rest of the line of what stands at an address.

@@ -17,15 +17,22 @@ pub struct Seen {
 }
 
 // Inspects an image, and answers with row k. The rows hold an index at first that no row of four can be given.
-pub(crate) fn look(profile: Profile, sheet: &[u8], heap: &[u8], records: &[u8], k: usize) -> Seen
+pub(crate) fn look(
+    profile: Profile,
+    sheet: &[u8],
+    heap: &[u8],
+    records: &[u8],
+    magazines: &[u32],
+    k: usize,
+) -> Seen
     requires { ⌜ k < 4 ⌝ }
-    ensures { λ r. ⌜ r ≡ seenOf profile (before sheet heap records) k ⌝ }
+    ensures { λ r. ⌜ r ≡ seenOf profile (before sheet heap records) (now (magazines .entry)) k ⌝ }
 {
     let mut rows = [Finding {
         index: 9,
         verdict: Verdict::Whole,
     }; 4];
-    let answer = inspect::inspect(profile, sheet, heap, records, &mut rows);
+    let answer = inspect::inspect(profile, sheet, heap, records, magazines, &mut rows);
     let finding = rows[k];
     Seen { answer, finding }
 }

@@ -11,7 +11,8 @@
 //     show                    the client's bytes, each as a number; none where they are refused
 //     find_latest             row or record, and its index
 //     latest                  the bytes of the log's row or of the record; none where it is refused
-//     inspect                 the number of buffers, and then a line for each place of a lent row of four findings:
+//     inspect                 the number of buffers, and then a line for each place of a lent row of four findings; with an empty
+//                             magazine list, but for the calls of `list` and `list_refused`:
 //     finding                 index, verdict's number, and its size or offset
 //     byte, word              the number at an address, or none
 //
@@ -214,6 +215,29 @@ fn use_hurt(p: Profile, sheet: &mut SheetArea, heap: &mut HeapArea, records: &mu
     calls::inspect(p, sheet, heap, records);
 }
 
+// The second buffer is listed, alone, twice, and beside the first, which is allocated.
+fn list(p: Profile, sheet: &SheetArea, heap: &HeapArea, records: &[u8]) {
+    calls::inspect_listed(p, sheet, heap, records, &[SECOND]);
+    calls::inspect_listed(p, sheet, heap, records, &[SECOND, SECOND]);
+    calls::inspect_listed(p, sheet, heap, records, &[SECOND, FIRST]);
+}
+
+// An address between two buffers is listed, and more words than there are buffers.
+fn list_refused(p: Profile, sheet: &SheetArea, heap: &HeapArea, records: &[u8]) {
+    calls::inspect_listed(p, sheet, heap, records, &[SECOND, SECOND + 4]);
+    calls::inspect_listed(p, sheet, heap, records, &[SECOND, FIRST, THIRD, SECOND]);
+}
+
+// The second buffer is free: in lists while it is on the chain, and then while the chain is empty. Its record is the head's.
+fn list_image(p: Profile, sheet: &mut SheetArea, heap: &HeapArea, records: &[u8]) {
+    list(p, sheet, heap, records);
+    fields::set_head(sheet, 0);
+    calls::inspect(p, sheet, heap, records);
+    list(p, sheet, heap, records);
+    list_refused(p, sheet, heap, records);
+    fields::set_head(sheet, RECORDS + 96 + longer(p) as u32);
+}
+
 // The image is laid out and used.
 fn use_image(f: Format, sheet: &mut SheetArea, heap: &mut HeapArea, records: &mut [u8]) {
     let p = f.profile;
@@ -267,6 +291,7 @@ fn trace(f: Format, records: &mut [u8]) {
     let mut sheet = [0u8; fields::LENGTH];
     let mut heap = [0u8; 3 * 40];
     use_image(f, &mut sheet, &mut heap, records);
+    list_image(p, &mut sheet, &heap, records);
     ask_image(f, &sheet, &heap, records);
     hurt_image(p, &mut sheet, &mut heap, records);
     hurt_codes(f, &mut sheet, &mut heap, records);

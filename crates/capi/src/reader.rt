@@ -51,13 +51,15 @@ pub extern "C" fn cg_inspect(
     sheet: &[u8],
     heap: &[u8],
     records: &[u8],
+    magazines: &[u32],
     rows: &mut [u32],
 ) -> u64
     ensures { λ r. ⌜ filling r (now (rows .exit))
-        ≡ told answerWord (tabulateOf (profileIf userland) (before sheet heap records) (now (rows .entry))) ⌝ }
+        ≡ told answerWord (tabulateOf (profileIf userland) (before sheet heap records) (now (magazines .entry))
+        (now (rows .entry))) ⌝ }
 {
     let profile = format::profile_if(userland);
-    word(table::tabulate(profile, sheet, heap, records, rows))
+    word(table::tabulate(profile, sheet, heap, records, magazines, rows))
 }
 
 // Fills the same numbers of an image with a log, and three of the chain: records met, ending, the record that it came back to.
@@ -68,16 +70,17 @@ pub extern "C" fn cg_survey(
     sheet: &[u8],
     heap: &[u8],
     records: &[u8],
+    magazines: &[u32],
     log: &[u8],
     rows: &mut [u32],
     chain: &mut [u32],
 ) -> u64
     ensures { λ r. ⌜ numbering r (now (rows .exit)) (now (chain .exit))
-        ≡ surveyWord (surveyNumbersOf (profileIf userland) (before sheet heap records)
+        ≡ surveyWord (surveyNumbersOf (profileIf userland) (before sheet heap records) (now (magazines .entry))
         (length (now (log .entry))) (now (rows .entry)) (now (chain .entry))) ⌝ }
 {
     let profile = format::profile_if(userland);
-    word(numbers::survey_numbers(profile, sheet, heap, records, log, rows, chain))
+    word(numbers::survey_numbers(profile, sheet, heap, records, magazines, log, rows, chain))
 }
 
 // Finds the latest transaction of a buffer. The value is the log row's number, or 0x80000000 plus the record's index.
@@ -110,13 +113,14 @@ pub extern "C" fn cg_report(
     sheet: &[u8],
     heap: &[u8],
     records: &[u8],
+    magazines: &[u32],
     log: &[u8],
     output: &mut [u8],
 ) -> u64
     ensures { λ r. ⌜ filling r (now (output .exit))
-        ≡ told answerWord (reportOf (profileIf userland) (before sheet heap records)
+        ≡ told answerWord (reportOf (profileIf userland) (before sheet heap records) (now (magazines .entry))
         (length (now (log .entry))) (now (output .entry))) ⌝ }
 {
     let profile = format::profile_if(userland);
-    word(answer::report(profile, sheet, heap, records, log, output))
+    word(answer::report(profile, sheet, heap, records, magazines, log, output))
 }

@@ -3,3 +3,4 @@ pub mod Chains
 pub mod Lends
 pub mod Counts
 pub mod Owns
+pub mod Markings

@@ -1,4 +1,5 @@
 pub mod Chain
 pub mod Walk
 pub mod Pairing
+pub mod Magazines
 pub mod Marks

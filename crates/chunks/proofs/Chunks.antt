@@ -32,7 +32,8 @@ use Rattle.tags.specs.declared.size_code.Decoded.the-variants.{Size, Bad}
 use Rattle.chunks.specs.declared.chunk.Grant.{Grant}
 use Rattle.tags.specs.declared.verdict.Told.{Told}
 use Rattle.tags.specs.declared.verdict.Verdict.{Verdict}
-use Rattle.tags.specs.declared.verdict.Verdict.the-variants.{Free, Whole, Allocated, NotOneRecord, BadTag, FreedTwice, OffChain, OnChain, BadFill, BadRedzone, BadSizeCode, Overrun, BadHeader}
+use Rattle.tags.specs.declared.verdict.Verdict.the-variants.{Free, Whole, Allocated, Cached, NotOneRecord, BadTag, FreedTwice}
+use Rattle.tags.specs.declared.verdict.Verdict.the-variants.{OffChain, OnChain, BadFill, BadRedzone, BadSizeCode, Overrun, BadHeader}
 use Rattle.chunks.specs.declared.chunk.Grant.the-variants as grant
 
 -- ---- a chunk is written
@@ -145,6 +146,7 @@ allocated-two : (v : Verdict) → verdictNumber v ≡ 2 → v ≡ Allocated (ver
 allocated-two Free e = absurd (omega arith)
 allocated-two Whole e = absurd (omega arith)
 allocated-two (Allocated s) e = refl
+allocated-two Cached e = absurd (omega arith)
 allocated-two NotOneRecord e = absurd (omega arith)
 allocated-two BadTag e = absurd (omega arith)
 allocated-two FreedTwice e = absurd (omega arith)

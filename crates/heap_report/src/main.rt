@@ -41,10 +41,20 @@ fn tell_refusal(why: Refusal) {
     }
 }
 
-// Writes the answer to what was read: the report, or why there is none. No report is longer than the output.
+// Writes the answer to what was read: the report, or why there is none. The input has no magazine list: it is empty. No report is
+// longer than the output.
 fn tell(sheet: &[u8], heap: &[u8], records: &[u8], log: &[u8]) {
     let mut output = [0u8; 65535];
-    let told = answer::report(Profile::Kernel, sheet, heap, records, log, &mut output);
+    let none = [0u32; 0];
+    let told = answer::report(
+        Profile::Kernel,
+        sheet,
+        heap,
+        records,
+        &none,
+        log,
+        &mut output,
+    );
     match told {
         Answer::Value(n) => write_out(&output, n as usize),
         Answer::Refused(why) => tell_refusal(why),

@@ -15,7 +15,7 @@ use Rattle.tags.specs.declared.format.Profile.{Profile}
 use Rattle.tags.specs.declared.tag.Pattern.{Pattern}
 use Rattle.tags.specs.declared.tag.Pattern.the-variants as pattern
 use Rattle.tags.specs.declared.verdict.Verdict.{Verdict}
-use Rattle.tags.specs.declared.verdict.Verdict.the-variants.{Free, Whole, Allocated, NotOneRecord, BadTag, FreedTwice}
+use Rattle.tags.specs.declared.verdict.Verdict.the-variants.{Free, Whole, Allocated, Cached, NotOneRecord, BadTag, FreedTwice}
 use Rattle.tags.specs.declared.verdict.Verdict.the-variants.{OffChain, OnChain, BadFill, BadRedzone, BadSizeCode, Overrun, BadHeader}
 use Rattle.tags.specs.declared.refusal.Refusal.the-variants.{Damage}
 use Rattle.tags.proofs.Verdicts.{code-fault}
@@ -68,6 +68,7 @@ module _ (m : Image) (address : ℕ) (p : Spot)
   held-as-if Whole f = known grant.Whole refl
   held-as-if (Allocated k) f = known (grant.Sized k) (f k refl)
   held-as-if Free f = tt
+  held-as-if Cached f = tt
   held-as-if NotOneRecord f = tt
   held-as-if BadTag f = tt
   held-as-if FreedTwice f = tt

@@ -1,24 +1,29 @@
--- The laws of findings: rows that are written one after the other, and what is begun. Assumes nothing.
+-- The laws of findings: rows that are written one after the other, the first of the marks, and what is begun. Assumes nothing.
 use mathlib.Core.Path.{_≡_, refl, sym, ap, _∙_, subst}
-use mathlib.Core.List.{List}
+use mathlib.Core.List.{List, _++_}
 use Prim.Native.Nat.{ℕ, zero, suc, _≤_, _<_}
 use native.Mathlib.Omega.{arith}
 use native.Mathlib.Decide.{ℕ-discrete}
 use borrow.Author.Tests.{le-leb, lt-leb}
 use lib.ListN.{length, getD, set, take, length-set}
-use lib.Seq.{getD-set-same, getD-set-other}
+use lib.Seq.{getD-set-same, getD-set-other, take-at}
+use Rattle.tags.specs.Filling.{unfilled}
 use Rattle.tags.specs.declared.format.Profile.{Profile}
-use Rattle.tags.specs.declared.ending.Ending.{Ending}
 use Rattle.tags.specs.declared.refusal.Refusal.{Refusal}
 use Rattle.tags.specs.declared.refusal.Refusal.the-variants.{ShortOutput}
+use Rattle.tags.specs.declared.refusal.Answer.the-variants.{Refused}
 use Rattle.sheet.specs.Opening.{openedOf}
 use Rattle.sheet.specs.Areas.{Areas}
 use Rattle.geometry.specs.declared.sheet.Sheet.{Sheet}
 use Rattle.sheet.specs.declared.opening.Opened.the-variants as opened
 use Rattle.sheet.proofs.Opens.{opened-known}
-use Rattle.chain.specs.Chain.{chainIn}
-use Rattle.chain.specs.Marks.{marksIn}
-use Rattle.image.specs.Inspect.{filled, inspectOf, Begins}
+use Rattle.chain.specs.Marks.{marksIn, markedOf, MarksIf}
+use Rattle.chain.specs.declared.walk.Walked.{Walked}
+use Rattle.chain.specs.declared.marks.Marked.{Marked}
+use Rattle.chain.specs.declared.marks.Marked.the-variants as marked
+use Rattle.chain.proofs.Counts.{length-marks}
+use Rattle.chain.proofs.Markings.{marked-chain, marked-passes, marked-refuses}
+use Rattle.image.specs.Inspect.{Inspection, filled, inspectOf, Begins}
 use Rattle.image.specs.declared.inspect.Finding.{Finding}
 use Rattle.image.specs.declared.inspect.Begun.the-variants as begun
 
@@ -45,35 +50,57 @@ filled-below f rows (suc n) j d l m = go (ℕ-discrete j n) (filled-below f rows
         ∙ ap f (sym e)
     go (no ne) ih = getD-set-other (filled f rows n) n j (f n) d ne ∙ ih (omega (arith, l, ne)) (omega (arith, m))
 
+-- ---- the first of the marks
+
+-- what is said of marks that stand at the start of a longer row is said of the first n of the row
+pub marks-first : (g : Sheet) (records l bytes rest : List ℕ) (r : Marked) → MarksIf r bytes (marksIn g records l)
+    → MarksIf r (take (g .count) (bytes ++ rest)) (marksIn g records l)
+marks-first g records l bytes rest (marked.Chain w) e = take-at bytes rest (g .count) (length-marks g records l bytes e) ∙ e
+marks-first g records l bytes rest (marked.Refused why) e = tt
+
 -- ---- what is begun
 
-module _ (p : Profile) (a : Areas) (k : ℕ) (marks : List ℕ) where
+-- what an inspection is where the image or the list is refused
+abbrev shut : List Finding → Refusal → Inspection
+shut rows why = unfilled (Refused why) rows
+
+module _ (p : Profile) (a : Areas) (l : List ℕ) (k : ℕ) (marks : List ℕ) where
   -- the image is refused
   pub begins-refused : (why : Refusal) → openedOf p (a .sheet) (length (a .heap)) (length (a .records)) ≡ opened.Refused why
-      → Begins p a k (begun.Refused why) marks
+      → Begins p a l k (begun.Refused why) marks
   unfolding inspectOf
-  begins-refused why shut = record { within = omega arith; small = omega arith; judges = tt; tells = λ rows l. rw shut refl }
+  begins-refused why refused = record { within = omega arith; small = omega arith; judges = tt; tells = λ rows long. rw refused refl }
 
   module _ (g : Sheet) (opens : openedOf p (a .sheet) (length (a .heap)) (length (a .records)) ≡ opened.Sheet g) where
-    -- the row is too short
-    pub begins-short : k < g .count → Begins p a k (begun.Refused ShortOutput) marks
+    -- the list is refused
+    pub begins-unlisted : (why : Refusal) → markedOf g (a .records) l ≡ marked.Refused why → Begins p a l k (begun.Refused why) marks
     unfolding inspectOf
-    begins-short short = record {
+    begins-unlisted why refused = record {
       within = omega arith;
       small = omega arith;
       judges = tt;
-      tells = λ rows l. rw (opens, lt-leb (g .count) (length rows) (omega arith)) refl;
+      tells = λ rows long. rw opens (marked-refuses g (a .records) l _ (shut rows) why refused);
     }
 
-    -- the image is marked
-    pub begins-image : (ending : Ending) → g .count ≤ k → take (g .count) marks ≡ marksIn g (a .records) → ending ≡ chainIn g (a .records) .ending
-        → Begins p a k (begun.Image g ending) marks
-    unfolding inspectOf
-    begins-image ending fits marked ends =
-        let o = opened-known _ _ _ _ _ opens .opens in
-        record {
-          within = fits;
-          small = omega (arith, o .law .sizes .few);
-          judges = record { opens = o; marked = marked; ends = ends };
-          tells = λ rows l. rw (opens, le-leb (g .count) (length rows) (omega arith)) refl;
-        }
+    module _ (w : Walked) (walked : markedOf g (a .records) l ≡ marked.Chain w) where
+      -- the row is too short
+      pub begins-short : k < g .count → Begins p a l k (begun.Refused ShortOutput) marks
+      unfolding inspectOf
+      begins-short short = record {
+        within = omega arith;
+        small = omega arith;
+        judges = tt;
+        tells = λ rows long. rw (opens, lt-leb (g .count) (length rows) (omega arith)) (marked-passes g (a .records) l _ (shut rows) w walked);
+      }
+
+      -- the image is marked
+      pub begins-image : g .count ≤ k → take (g .count) marks ≡ marksIn g (a .records) l → Begins p a l k (begun.Image g (w .ending)) marks
+      unfolding inspectOf
+      begins-image fits e =
+          let o = opened-known _ _ _ _ _ opens .opens in
+          record {
+            within = fits;
+            small = omega (arith, o .law .sizes .few);
+            judges = record { opens = o; marked = e; ends = ap (λ (v : Walked). v .ending) (marked-chain g (a .records) l w walked) };
+            tells = λ rows long. rw (opens, le-leb (g .count) (length rows) (omega arith)) (marked-passes g (a .records) l _ (shut rows) w walked);
+          }

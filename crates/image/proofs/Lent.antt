@@ -3,7 +3,8 @@
 --     laid         an array's local that holds the list xs is the whole share of the array in memory, which `lent` lends. T has one MIR type
 --     lent         what is held whole is lent as a `&` under some name, and the lender's part is kept
 --     lent-mut     the same as a `&mut`, and `mut-back` gives it back at its last value
---     stays-bytes, goes-bytes, tells-bytes      what a walk owes of a parameter that is a `&[u8]` at the signature's lifetime j
+--     stays-of, goes-of, tells-of      what a walk owes of a parameter that is a `&[T]` at the signature's lifetime j
+--     twice-of     what a `&[T]` owns is had twice
 --     freed        the whole share of the array, as `lent-back` gives it back  ⊢  the array's room, which `free1` asks
 -- Assumes `Given`.
 use Prim.Native.Nat.{ℕ, zero, suc}
@@ -28,20 +29,19 @@ use denote.Shadow.{shadow}
 use types.SemTy.{Body}
 use denote.Memory.{cellAt, lone, mem, partAt, partOf}
 use denote.Array.{Array, arrayVal, each, array-vals, array-tells, array-makes}
-use denote.Ref.{ShrRef, MutRef}
+use denote.Ref.{RefT, ShrRef, MutRef}
 use denote.Steps.{owned}
 use denote.Struct.Steps.{spelt}
-use denote.Slice.{ShrSlice, slice-vals, shr-slice-tells}
+use denote.Slice.{ShrSlice, slice-vals, shr-slice-copy, shr-slice-tells}
 use denote.Signature.{AllWithin, plain, shrSliceOf}
-use denote.Builtin.{u8}
 use denote.Exit.{yes}
 use denote.Triple.Walked.{says, Stay, stay-none-slice, Goes, goes-none-slice}
 
-abbrev pub stays-bytes : {n : ℕ} (j : ℕ) (ok : AllWithin n (j ∷ [])) → Stay {n = n} (shrSliceOf (j ∷ []) ok (plain (λ _. u8))) yes
-stays-bytes j ok = stay-none-slice (j ∷ []) ok (plain (λ _. u8)) yes
+abbrev pub stays-of : {n : ℕ} (R : RattleType) (j : ℕ) (ok : AllWithin n (j ∷ [])) → Stay {n = n} (shrSliceOf (j ∷ []) ok (plain (λ _. R))) yes
+stays-of R j ok = stay-none-slice (j ∷ []) ok (plain (λ _. R)) yes
 
-pub tells-bytes : (j : ℕ) (κ : Lft) → Tells (ShrSlice (named j) κ u8) (Is (ShrSlice (named j) κ u8)) slice-vals
-tells-bytes j κ = shr-slice-tells (named j) κ u8
+pub tells-of : (R : RattleType) (j : ℕ) (κ : Lft) → Tells (ShrSlice (named j) κ R) (Is (ShrSlice (named j) κ R)) slice-vals
+tells-of R j κ = shr-slice-tells (named j) κ R
 
 pub alike-is : (R : RattleType) (n : ℕ) (x : R .Denot) (u : Val) → Is R x (u ∷ []) → Is (Array R n) (replicate n x) (arrayVal (replicate n u) ∷ [])
 alike-is R n x u is = (replicate n u, ((refl, length-replicate n x), all n))
@@ -57,6 +57,11 @@ module _ {M : Type 1} {𝓤 : URA M} {H : Heap 𝓤} {A : Atoms 𝓤} {K : Type 
       step (λ s. suffices t (sep 𝓤 (sep 𝓤 P (fact 𝓤 φ)) (fact 𝓤 ψ)) (assoc∗ 𝓤 P (fact 𝓤 φ) (fact 𝓤 ψ)) $ says t y $ says t x $ s)
 
   module _ {G : Goal 𝓤 H} where
+    pub twice-of : K → (R : RattleType) (ℓ : Lifetime) (κ : Lft) (x : RefT (List (R .Denot))) {vs : List Val}
+        → Step K W (‵ (ShrSlice ℓ κ R .own x vs) ∷ ‵ (ShrSlice ℓ κ R .own x vs) ∷ Γ) G (‵ (ShrSlice ℓ κ R .own x vs) ∷ Γ) G
+    twice-of t R ℓ κ x {vs} = step (λ s.
+        use1 W (‵ (ShrSlice ℓ κ R .own x vs) ⊛ ‵ (ShrSlice ℓ κ R .own x vs)) (shr-slice-copy 𝓤 H A W ℓ κ R .twice x vs) $ split t $ s)
+
     pub laid : K → (R : RattleType) → Makes 𝓤 H A R (Is R) → {n b o : ℕ} (xs : List (R .Denot)) {u : Val} → Is (Array R n) xs (u ∷ [])
         → Step K W (‵ (partAt (Array R n) fullShare xs b o) ∷ Γ) G (‵ (fat fullShare (tyArray (lone (R .mir)) n) b o u) ∷ Γ) G
     unfolding partOf
@@ -87,8 +92,8 @@ module _ {M : Type 1} {𝓤 : URA M} {H : Heap 𝓤} {A : Atoms 𝓤} {K : Type 
     mut-back t z κ R γ y b = step (λ s. use3 W (later (‵ (partAt R fullShare y b 0))) (ref-back 𝓤 H A W R κ γ y b 0) $ await t z $ s)
 
 module _ {M : Type 1} (𝓤 : URA M) (H : Heap 𝓤) (A : Atoms 𝓤) (W : Given 𝓤 H A) where
-  pub goes-bytes : (n j : ℕ) (ok : AllWithin n (j ∷ [])) → Goes 𝓤 H A W n (shrSliceOf (j ∷ []) ok (plain (λ _. u8))) yes (stays-bytes j ok)
-  goes-bytes n j ok = goes-none-slice 𝓤 H A W n (j ∷ []) ok (plain (λ _. u8)) yes
+  pub goes-of : (R : RattleType) (n j : ℕ) (ok : AllWithin n (j ∷ [])) → Goes 𝓤 H A W n (shrSliceOf (j ∷ []) ok (plain (λ _. R))) yes (stays-of R j ok)
+  goes-of R n j ok = goes-none-slice 𝓤 H A W n (j ∷ []) ok (plain (λ _. R)) yes
 
   pub freed : (R : RattleType) (n b o : ℕ) (vals : R .Denot → List Val) → Tells R (Is R) vals → (xs : List (R .Denot))
       → ent 𝓤 (sem 𝓤 H A (partAt (Array R n) fullShare xs b o)) (H .room (tyArray (lone (R .mir)) n) b o)

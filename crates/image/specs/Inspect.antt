@@ -11,7 +11,7 @@ use Rattle.tags.specs.declared.refusal.Answer.{Answer}
 use Rattle.tags.specs.declared.refusal.Answer.the-variants.{Value, Refused}
 use Rattle.tags.specs.declared.verdict.Verdict.the-variants.{NotOneRecord}
 use Rattle.sheet.specs.Opening.{Open}
-use Rattle.sheet.specs.Areas.{Areas, Image, image, opening, byImage}
+use Rattle.sheet.specs.Areas.{Areas, Image, image, opening, byListed}
 use Rattle.geometry.specs.declared.sheet.Sheet.{Sheet}
 use Rattle.chain.specs.Chain.{chainIn}
 use Rattle.chain.specs.Marks.{marksIn}
@@ -36,9 +36,10 @@ Inspection = Filling Answer Finding
 abbrev pub inspected : Image → List Finding → Inspection
 inspected m rows = filling (Value (m .sheet .count)) (filled (findingOf m) rows (m .sheet .count))
 
--- E8 (the need: a finding for each buffer), after E3
-unfoldable pub inspectOf : Profile → Areas → List Finding → Inspection
-inspectOf p a rows = byImage (opening p a) a (λ m. ifRoom (m .sheet .count) rows (inspected m rows) (Refused ShortOutput)) (λ why. unfilled (Refused why) rows)
+-- E8 (the need: a finding for each buffer), after E3 with the magazine list l
+unfoldable pub inspectOf : Profile → Areas → List ℕ → List Finding → Inspection
+inspectOf p a l rows =
+    byListed (opening p a) a l (λ m. ifRoom (m .sheet .count) rows (inspected m rows) (Refused ShortOutput)) (λ why. unfilled (Refused why) rows)
 
 -- ---- how the code holds it
 
@@ -52,24 +53,24 @@ answerOf (begun.Image g ending) = Value (g .count)
 answerOf (begun.Refused why) = Refused why
 
 -- the finding of buffer i; where no buffer is judged, that of a buffer without a record
-abbrev pub foundBy : List ℕ → List ℕ → Begun → ℕ → Finding
-foundBy heap records (begun.Image g ending) i = findingOf (image g heap records) i
-foundBy heap records (begun.Refused why) i = record { index = i; verdict = NotOneRecord }
+abbrev pub foundBy : List ℕ → List ℕ → List ℕ → Begun → ℕ → Finding
+foundBy heap records l (begun.Image g ending) i = findingOf (image g heap records l) i
+foundBy heap records l (begun.Refused why) i = record { index = i; verdict = NotOneRecord }
 
 -- the numbers, the ending and the marks, of which there may be more, are those of an open image
-pub record JudgesImage (heap records marks : List ℕ) (g : Sheet) (ending : Ending) : Type 0 where
+pub record JudgesImage (heap records l marks : List ℕ) (g : Sheet) (ending : Ending) : Type 0 where
   pub opens : Open (length heap) (length records) g
-  pub marked : take (g .count) marks ≡ marksIn g records
+  pub marked : take (g .count) marks ≡ marksIn g records l
   pub ends : ending ≡ chainIn g records .ending
 
-abbrev pub Judges : List ℕ → List ℕ → List ℕ → Begun → Type 0
-Judges heap records marks (begun.Image g ending) = JudgesImage heap records marks g ending
-Judges heap records marks (begun.Refused why) = Unit {0}
+abbrev pub Judges : List ℕ → List ℕ → List ℕ → List ℕ → Begun → Type 0
+Judges heap records l marks (begun.Image g ending) = JudgesImage heap records l marks g ending
+Judges heap records l marks (begun.Refused why) = Unit {0}
 
 -- what is begun, for a row of k findings: the buffers to be judged have a place in it and can be judged, and the answer and their findings are those of the
 -- inspection
-pub record Begins (p : Profile) (a : Areas) (k : ℕ) (b : Begun) (marks : List ℕ) : Type 0 where
+pub record Begins (p : Profile) (a : Areas) (l : List ℕ) (k : ℕ) (b : Begun) (marks : List ℕ) : Type 0 where
   pub within : countOf b ≤ k
   pub small : countOf b ≤ 4294967295
-  pub judges : Judges (a .heap) (a .records) marks b
-  pub tells : (rows : List Finding) → length rows ≡ k → inspectOf p a rows ≡ filling (answerOf b) (filled (foundBy (a .heap) (a .records) b) rows (countOf b))
+  pub judges : Judges (a .heap) (a .records) l marks b
+  pub tells : (rows : List Finding) → length rows ≡ k → inspectOf p a l rows ≡ filling (answerOf b) (filled (foundBy (a .heap) (a .records) l b) rows (countOf b))

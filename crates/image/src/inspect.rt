@@ -1,17 +1,17 @@
-// The findings of an image: for each buffer its index and its verdict, with its size or offset. One pass over the records, one
-// walk of the chain, one pass over the heap.
+// The findings of an image: for each buffer its index and its verdict, with its size or offset. One pass over the records, one over
+// the magazine list, one walk of the chain, one pass over the heap.
 ghost use mathlib.Core.Path.{_≡_};
 ghost use Prim.Native.Nat.{_≤_, _<_};
 ghost use lib.ListN.{length, take};
 ghost use Rattle.tags.specs.Filling.{filling};
 ghost use Rattle.geometry.specs.Sheet.{recordsLength};
 ghost use Rattle.geometry.specs.Limits.{Lawful, countMost};
-ghost use Rattle.sheet.specs.Areas.{before, imageIn};
-ghost use Rattle.chain.specs.Chain.{chainIn};
-ghost use Rattle.chain.specs.Marks.{marksIn};
+ghost use Rattle.sheet.specs.Areas.{before, imageListed};
+ghost use Rattle.chain.specs.Marks.{marksIn, markedOf, MarksIf};
 ghost use Rattle.verdicts.specs.Judge.{verdictOf};
 ghost use Rattle.image.specs.Inspect.{inspectOf, countOf, answerOf, foundBy, JudgesImage, Judges, Begins};
 use chain::marks;
+use chain::marks::Marked;
 use geometry::limits;
 use geometry::sheet::Sheet;
 use sheet::opening;
@@ -39,17 +39,17 @@ pub enum Begun {
     Refused(Refusal),
 }
 
-// Marks the records and buffers of an image at the start of a longer row of marks, and tells how the chain ends.
-fn mark_first(records: &[u8], g: Sheet, marks: &mut [u8]) -> Ending
+// Marks the records and buffers of an image at the start of a longer row of marks.
+fn mark_first(records: &[u8], magazines: &[u32], g: Sheet, marks: &mut [u8]) -> Marked
     requires { ⌜ Lawful g ⌝ }
     requires { ⌜ length (now records) ≡ recordsLength g ⌝ }
     requires { ⌜ g .count ≤ length (now marks) ⌝ }
-    ensures ending { λ r. ⌜ r ≡ chainIn g (now (records .entry)) .ending ⌝ }
-    ensures marks { λ _. ⌜ take (g .count) (now (marks .exit)) ≡ marksIn g (now (records .entry)) ⌝ }
+    ensures marked { λ r. ⌜ r ≡ markedOf g (now (records .entry)) (now (magazines .entry)) ⌝ }
+    ensures marks { λ r. ⌜ MarksIf r (take (g .count) (now (marks .exit)))
+        (marksIn g (now (records .entry)) (now (magazines .entry))) ⌝ }
 {
     let n = g.count;
-    let walked = marks::mark(records, g, &mut marks[..n]);
-    walked.ending
+    marks::mark(records, magazines, g, &mut marks[..n])
 }
 
 // Opens an image and marks its records and buffers, for a lent row of so many findings.
@@ -58,21 +58,28 @@ fn begin(
     sheet: &[u8],
     heap: &[u8],
     records: &[u8],
+    magazines: &[u32],
     rows: usize,
     marks: &mut Marks,
 ) -> Begun
     requires { ⌜ length (now marks) ≡ countMost ⌝ }
-    ensures { λ r. ⌜ Begins profile (before sheet heap records) rows r (now (marks .exit)) ⌝ }
+    ensures { λ r. ⌜ Begins profile (before sheet heap records) (now (magazines .entry)) rows r (now (marks .exit)) ⌝ }
 {
     let opened = opening::open(profile, sheet, heap.len(), records.len());
     match opened {
         Opened::Refused(why) => Begun::Refused(why),
         Opened::Sheet(g) => {
-            if rows < g.count {
-                return Begun::Refused(Refusal::ShortOutput);
+            let marked = mark_first(records, magazines, g, marks);
+            match marked {
+                Marked::Refused(why) => Begun::Refused(why),
+                Marked::Chain(walked) => {
+                    if rows < g.count {
+                        return Begun::Refused(Refusal::ShortOutput);
+                    }
+                    let ending = walked.ending;
+                    Begun::Image(g, ending)
+                }
             }
-            let ending = mark_first(records, g, marks);
-            Begun::Image(g, ending)
         }
     }
 }
@@ -91,24 +98,32 @@ fn count_of(begun: Begun) -> usize
 fn judge_first(
     heap: &[u8],
     records: &[u8],
+    magazines: &[u32],
     g: Sheet,
     i: usize,
     marks: &[u8],
     ending: Ending,
 ) -> Verdict
-    requires { ⌜ JudgesImage (now heap) (now records) (now marks) g ending ⌝ }
+    requires { ⌜ JudgesImage (now heap) (now records) (now magazines) (now marks) g ending ⌝ }
     requires { ⌜ i < g .count ⌝ }
-    ensures { λ r. ⌜ r ≡ verdictOf (imageIn g (heap .entry) (records .entry)) i ⌝ }
+    ensures { λ r. ⌜ r ≡ verdictOf (imageListed g (heap .entry) (records .entry) (magazines .entry)) i ⌝ }
 {
     let n = g.count;
-    verdict::of(judge::judge_buffer(heap, records, g, i, &marks[..n], ending))
+    verdict::of(judge::judge_buffer(heap, records, magazines, g, i, &marks[..n], ending))
 }
 
 // The finding of buffer i. Where no buffer is judged there is none, and this is not called.
-fn find(heap: &[u8], records: &[u8], begun: Begun, marks: &Marks, i: usize) -> Finding
-    requires { ⌜ Judges (now heap) (now records) (now marks) begun ⌝ }
+fn find(
+    heap: &[u8],
+    records: &[u8],
+    magazines: &[u32],
+    begun: Begun,
+    marks: &Marks,
+    i: usize,
+) -> Finding
+    requires { ⌜ Judges (now heap) (now records) (now magazines) (now marks) begun ⌝ }
     requires { ⌜ i < countOf begun ⌝ }
-    ensures { λ r. ⌜ r ≡ foundBy (now (heap .entry)) (now (records .entry)) begun i ⌝ }
+    ensures { λ r. ⌜ r ≡ foundBy (now (heap .entry)) (now (records .entry)) (now (magazines .entry)) begun i ⌝ }
 {
     match begun {
         Begun::Refused(_) => Finding {
@@ -116,7 +131,7 @@ fn find(heap: &[u8], records: &[u8], begun: Begun, marks: &Marks, i: usize) -> F
             verdict: Verdict::NotOneRecord,
         },
         Begun::Image(g, ending) => {
-            let verdict = judge_first(heap, records, g, i, marks, ending);
+            let verdict = judge_first(heap, records, magazines, g, i, marks, ending);
             Finding { index: i, verdict }
         }
     }
@@ -139,17 +154,26 @@ pub fn inspect(
     sheet: &[u8],
     heap: &[u8],
     records: &[u8],
+    magazines: &[u32],
     rows: &mut [Finding],
 ) -> Answer
     ensures { λ r. ⌜ filling r (now (rows .exit))
-        ≡ inspectOf profile (before sheet heap records) (now (rows .entry)) ⌝ }
+        ≡ inspectOf profile (before sheet heap records) (now (magazines .entry)) (now (rows .entry)) ⌝ }
 {
     let mut marks = [0u8; limits::MOST_BUFFERS];
-    let begun = begin(profile, sheet, heap, records, rows.len(), &mut marks);
+    let begun = begin(
+        profile,
+        sheet,
+        heap,
+        records,
+        magazines,
+        rows.len(),
+        &mut marks,
+    );
     let n = count_of(begun);
     let mut i = 0;
     while i < n {
-        rows[i] = find(heap, records, begun, &marks, i);
+        rows[i] = find(heap, records, magazines, begun, &marks, i);
         i += 1;
     }
     answer_of(begun)

@@ -31,12 +31,12 @@ use Rattle.sheet.specs.Fields.{fieldIs, isShort, isLong, shaped, orderNumber, s
 use Rattle.geometry.specs.Limits.{sizesLawful, basesLawful, lawful}
 use Rattle.sheet.specs.Opening.{measured, numbered, ordered, openedOf}
 use Rattle.area.specs.Place.{placeOf}
-use Rattle.verdicts.specs.Judge.{standing, ownedVerdict, chainedVerdict}
+use Rattle.verdicts.specs.Judge.{standing, isFreedTwice, isAtRest, restVerdict, ownedVerdict, chainedVerdict}
 use Rattle.transactions.specs.Latest.{considered, latestRow}
 use Rattle.layout.specs.Layout.{linkTo, laidAreas, layOutPlan, layOutOf}
 use Rattle.allocation.specs.Allocate.{takenChunk, takenHead, takenOf, allocatePlan, grantedAreas, allocateOf}
 use Rattle.ledger.specs.Ledger.{allocate, resultOf, put, begun, run}
-use Rattle.ledger.specs.Checks.{Check, tagged, examined, aged, next, granted, ClaimOf, AllClaims, checks, userlandChecks, tableOf}
+use Rattle.ledger.specs.Checks.{Check, tagged, judged, aged, next, granted, ClaimOf, AllClaims, checks, userlandChecks, listChecks, tableOf}
 use Rattle.ledger.specs.Checks.{freshAreas, refusedAs, rowLatest, freeWith, allocatedWith}
 
 -- two lists of bytes are the same
@@ -54,8 +54,8 @@ same-bytes (x ∷ xs) (y ∷ ys) e = let both = and-eq-true-iff _ _ .0 e in rw (
 
 abbrev test : Format → Check → Bool
 test f (tagged t0 t1 s) = eqb (bitXor t0 t1) (stateWord s)
-test f (examined c a met number value) =
-    eqb (verdictNumber (ownedVerdict f c a (standing met false))) number && eqb (verdictValue (ownedVerdict f c a (standing met false))) value
+test f (judged c a met listed number value) =
+    let v = ownedVerdict f c a (standing met false listed) in eqb (verdictNumber v) number && eqb (verdictValue v) value
 test f (aged time first second age₁ age₂) =
     eqb (ageOf 32 time first) age₁ && (eqb (ageOf 32 time second) age₂ && (rowLatest f time first second && not (rowLatest f time second first)))
 test f (granted q a chunk) = sameBytes (grantedChunk f 24 a q) chunk
@@ -64,9 +64,9 @@ test f (next calls number) =
 
 holds : (f : Format) (c : Check) → test f c ≡ true → ClaimOf f c
 holds f (tagged t0 t1 s) e = eqb-true (bitXor t0 t1) (stateWord s) e
-holds f (examined c a met number value) e =
+holds f (judged c a met listed number value) e =
     let both = and-eq-true-iff _ _ .0 e in
-    let v = ownedVerdict f c a (standing met false) in
+    let v = ownedVerdict f c a (standing met false listed) in
     (eqb-true (verdictNumber v) number (both .0), eqb-true (verdictValue v) value (both .1))
 holds f (aged time first second age₁ age₂) e =
     let one = and-eq-true-iff _ _ .0 e in
@@ -87,9 +87,9 @@ all-hold f (c ∷ cs) e = let both = and-eq-true-iff _ _ .0 e in (holds f c (bot
 
 -- every table of checks that is computed
 computed : (p : Profile) (o : Order) → all (formatOf p o) (tableOf p (formatOf p o)) ≡ true
-unfolding checks userlandChecks freeWith allocatedWith freshAreas run put layOutPlan layOutOf laidAreas sheetBytes recordBytes flat linkTo part turned number
+unfolding checks userlandChecks listChecks freeWith allocatedWith freshAreas run put layOutPlan layOutOf laidAreas sheetBytes recordBytes flat linkTo part turned number
     bytesOf lowNumber lowBytes numberAt repeated differenceFrom tagOf patternOf patternWord decodedOf chunkOf freeChunk grantedChunk tagAt ownedVerdict
-    chainedVerdict headerSize headerBytes headerRight headerVerdict headedVerdict codedVerdict recordSize rowLatest rowRecord rowUptime considered latestRow freeVerdict allocatedVerdict
+    chainedVerdict isFreedTwice isAtRest restVerdict headerSize headerBytes headerRight headerVerdict headedVerdict codedVerdict recordSize rowLatest rowRecord rowUptime considered latestRow freeVerdict allocatedVerdict
     zoneVerdict sizedVerdict ageOf stamped fieldIs isShort isLong shaped orderNumber sheetOf withHead measured numbered ordered openedOf lawful sizesLawful
     basesLawful placeOf recordWord takenChunk takenHead takenOf allocatePlan grantedAreas allocateOf
 computed Kernel HighFirst = refl

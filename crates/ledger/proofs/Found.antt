@@ -24,8 +24,9 @@ use Rattle.sheet.specs.Areas.{Areas, Image, imageOf}
 use Rattle.geometry.specs.Sheet.{headed, bufferAddress, recordAddress}
 use Rattle.area.specs.Record.{addressWord}
 use Rattle.chain.specs.Chain.{occ, chainOf}
+use Rattle.chain.proofs.MetRecords.{occ-none}
 use Rattle.chain.specs.Pairing.{namers, theOne, ownIn, ownOf}
-use Rattle.verdicts.specs.Judge.{standing, chainedVerdict, ownedVerdict, verdictOf}
+use Rattle.verdicts.specs.Judge.{standing, isFreedTwice, isAtRest, restVerdict, chainedVerdict, ownedVerdict, verdictOf}
 use Rattle.geometry.specs.declared.sheet.Sheet.{Sheet}
 use Rattle.tags.specs.declared.ending.Ending.the-variants.{End}
 use Rattle.chain.specs.declared.pairing.Own.the-variants.{One}
@@ -64,8 +65,8 @@ module _ (f : Format) (size a : ℕ) (few : size ≤ 4096) (word : a < 429496729
   pattern-for o l = ap patternOf (tag-for f size a few word o l) ∙ tag-pattern a (stateFor o)
 
   owned-for : (o : Option Entry) → LawfulEntry (f .profile) size o → (k : ℕ) → k + outs o ≡ 1
-      → ownedVerdict f (chunkFor f size a o) a (standing (not (eqb k 0)) false) ≡ asEntered o
-  unfolding ownedVerdict chainedVerdict
+      → ownedVerdict f (chunkFor f size a o) a (standing (not (eqb k 0)) false 0) ≡ asEntered o
+  unfolding ownedVerdict chainedVerdict isFreedTwice isAtRest restVerdict
   owned-for none l k e =
       let q : k ≡ 1 = omega arith in
       rw (pattern-for none l, first-for none l, eq-eqb a a refl, q) (free-sound f size a)
@@ -100,7 +101,7 @@ module _ (g : Sheet) (laid : Laid g) {head : ℕ} {a : Areas} {out : ℕ → Opt
   pub verdict-is : (i : ℕ) → i < g .count → verdictOf image i ≡ asEntered (out (bufferAddress g i))
   unfolding verdictOf
   verdict-is i h =
-      rw (own-is i h, chain-is, v .chunks i h)
+      rw (own-is i h, chain-is, v .chunks i h, occ-none (bufferAddress g i))
       (owned-for (g .format) (g .size) (recordAddress g i) (laid .law .sizes .most) (record-fits g laid i h)
       (out (bufferAddress g i)) (v .entries i h) (occ i chain) (v .each i h))
 

@@ -59,8 +59,9 @@ rowLatest f time stamp row = isRow (latestRow f (rowOf f 0x70ae3200 row) 0x70ae3
 pub data Check : Type 0 where
   -- two tag words, and the state whose pattern their xor is
   tagged : (t0 t1 : ℕ) → State → Check
-  -- the chunk of a buffer whose own record is at an address and is met by the chain or not, and the number and the value of its verdict
-  examined : (chunk : List ℕ) (address : ℕ) (met : Bool) (number value : ℕ) → Check
+  -- the chunk of a buffer whose own record is at an address and is met by the chain or not, how often the buffer is listed, and the number and the value
+  -- of its verdict
+  judged : (chunk : List ℕ) (address : ℕ) (met : Bool) (listed number value : ℕ) → Check
   -- a time, two stamps and their ages, of which the second is later
   aged : (time first second : ℕ) (age₁ age₂ : ℕ) → Check
   -- calls made in the fresh image, and the number of the refusal of an allocate after them
@@ -71,8 +72,8 @@ pub data Check : Type 0 where
 -- what a check claims of images of a format
 abbrev pub ClaimOf : Format → Check → Type 0
 ClaimOf f (tagged t0 t1 s) = bitXor t0 t1 ≡ stateWord s
-ClaimOf f (examined c a met number value) =
-    (verdictNumber (ownedVerdict f c a (standing met false)) ≡ number) × (verdictValue (ownedVerdict f c a (standing met false)) ≡ value)
+ClaimOf f (judged c a met listed number value) =
+    (verdictNumber (ownedVerdict f c a (standing met false listed)) ≡ number) × (verdictValue (ownedVerdict f c a (standing met false listed)) ≡ value)
 ClaimOf f (aged time first second age₁ age₂) =
     (ageOf 32 time first ≡ age₁) × (ageOf 32 time second ≡ age₂) × (rowLatest f time first second ≡ true) × (rowLatest f time second first ≡ false)
 ClaimOf f (next calls number) =
@@ -105,6 +106,10 @@ guardedZone LowFirst = 0xfeedfabb
 abbrev pub highestAt : Order → ℕ
 highestAt HighFirst = 0
 highestAt LowFirst = 3
+
+-- the same of a buffer that is not listed
+abbrev pub examined : List ℕ → ℕ → Bool → ℕ → ℕ → Check
+examined chunk address met number value = judged chunk address met 0 number value
 
 -- P1 to P12, in order
 unfoldable pub checks : Format → List Check
@@ -154,6 +159,34 @@ userlandChecks f =
     ∷ examined (allocatedWith f (filledWith f 0) redzone redzone) 0x70ae3200 false 1 0
     ∷ []
 
--- the table of a profile
+-- ---- the magazine list
+
+-- the free chunk of P1, and a chunk after a whole grant
+abbrev soundFree : Format → List ℕ
+soundFree f = freeWith f (filledWith f freeFill) 0x8440c68e
+
+abbrev soundWhole : Format → List ℕ
+soundWhole f = allocatedWith f (filledWith f grantFill) redzone redzone
+
+unfoldable pub listChecks : Format → List Check
+listChecks f =
+    -- V3 (listed once, and off the chain), V23 (off both), V0 (on the chain, and not listed)
+    judged (soundFree f) 0x70ae3260 false 1 3 0
+    ∷ judged (soundFree f) 0x70ae3260 false 0 23 0
+    ∷ judged (soundFree f) 0x70ae3260 true 0 0 0
+    -- M4, V22 (listed and on the chain, listed twice), of either pattern
+    ∷ judged (soundFree f) 0x70ae3260 true 1 22 0
+    ∷ judged (soundFree f) 0x70ae3260 false 2 22 0
+    ∷ judged (soundWhole f) 0x70ae3200 true 1 22 0
+    ∷ judged (soundWhole f) 0x70ae3200 false 2 22 0
+    -- V24 (allocated, and listed once)
+    ∷ judged (soundWhole f) 0x70ae3200 false 1 24 0
+    -- V25, V26 (before V3), V21 (before V22)
+    ∷ judged (freeWith f (set (filledWith f freeFill) 9 0) 0x8440c68e) 0x70ae3260 false 1 25 9
+    ∷ judged (chunkOf f (filledWith f freeFill) redzone 0x00edface 0x70ae3260 0x8440c68e) 0x70ae3260 false 1 26 (28 + highestAt (f .order))
+    ∷ judged (freeWith f (filledWith f freeFill) 0x8440c68f) 0x70ae3260 false 2 21 0
+    ∷ []
+
+-- the table of a profile: its own cases, and those of the list, which both have
 abbrev pub tableOf : Profile → Format → List Check
-tableOf p f = byProfile p (checks f) (userlandChecks f)
+tableOf p f = byProfile p (checks f) (userlandChecks f) ++ listChecks f

@@ -15,7 +15,7 @@ use Rattle.tags.specs.Verdict.{verdictNumber, isFault}
 use Rattle.tags.specs.declared.ending.Ending.{Ending}
 use Rattle.tags.specs.declared.ending.Ending.the-variants.{End, Broken, Again}
 use Rattle.tags.specs.declared.verdict.Verdict.{Verdict}
-use Rattle.tags.specs.declared.verdict.Verdict.the-variants.{Free, Whole, Allocated, NotOneRecord, BadTag, FreedTwice, OffChain, OnChain}
+use Rattle.tags.specs.declared.verdict.Verdict.the-variants.{Free, Whole, Allocated, Cached, NotOneRecord, BadTag, FreedTwice, OffChain, OnChain}
 use Rattle.tags.specs.declared.verdict.Verdict.the-variants.{BadFill, BadRedzone, BadSizeCode, Overrun, BadHeader}
 use Rattle.tags.proofs.Verdicts.{code-fault}
 use Rattle.lines.specs.Text.{ascii, decimalWith, decimalOf, fieldOf, headerOf, hasOffset, faultLineOf, lineOf, linesOf, chainLineOf}
@@ -115,7 +115,8 @@ line-short i number value h k v =
     (λ _. by-test Short (eqb number 1) (λ _. omega (arith, field i 4 " whole\n" (omega arith) .most))
     (λ _. by-test Short (eqb number 2)
     (λ _. both (field i 4 " allocated " (omega arith)) (field value 9 "\n" (omega arith)) .most)
-    (λ _. omega (arith, fault-line-short i number value h k v))))
+    (λ _. by-test Short (eqb number 3) (λ _. omega (arith, field i 4 " cached\n" (omega arith) .most))
+    (λ _. omega (arith, fault-line-short i number value h k v)))))
   where
     Short : List ℕ → Type 0
     Short x = length x ≤ lineMost
@@ -135,6 +136,7 @@ pub verdict-small : (v : Verdict) → verdictNumber v < 100
 verdict-small Free = lit≤ tt
 verdict-small Whole = lit≤ tt
 verdict-small (Allocated s) = lit≤ tt
+verdict-small Cached = lit≤ tt
 verdict-small NotOneRecord = lit≤ tt
 verdict-small BadTag = lit≤ tt
 verdict-small FreedTwice = lit≤ tt

@@ -57,13 +57,14 @@ unfoldable pub faultLineOf : ℕ → ℕ → ℕ → List ℕ
 faultLineOf i number value =
     cond (hasOffset number) (fieldOf i " fault " ++ fieldOf number " " ++ fieldOf value "\n") (fieldOf i " fault " ++ fieldOf number "\n")
 
--- G5 (buffer lines: `I free`, `I whole`, `I allocated S`, or that of a fault): the line of buffer i, whose verdict has this number and this value, its
--- size or its offset. Every verdict but 0, 1 and 2 is a fault: none has a number from 3 to 19.
+-- G5 (buffer lines: `I free`, `I whole`, `I allocated S`, `I cached`, or that of a fault): the line of buffer i, whose verdict has this number and this
+-- value, its size or its offset. Every verdict but 0 to 3 is a fault: none has a number from 4 to 19.
 unfoldable pub lineOf : ℕ → ℕ → ℕ → List ℕ
 lineOf i number value =
     cond (eqb number 0) (fieldOf i " free\n")
     (cond (eqb number 1) (fieldOf i " whole\n")
-    (cond (eqb number 2) (fieldOf i " allocated " ++ fieldOf value "\n") (faultLineOf i number value)))
+    (cond (eqb number 2) (fieldOf i " allocated " ++ fieldOf value "\n")
+    (cond (eqb number 3) (fieldOf i " cached\n") (faultLineOf i number value))))
 
 -- G3 (a line for each buffer): those of buffers 0 to n - 1, where `number` and `value` tell each buffer's verdict
 abbrev pub linesOf : (ℕ → ℕ) → (ℕ → ℕ) → ℕ → List ℕ

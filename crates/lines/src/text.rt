@@ -135,6 +135,9 @@ fn put_verdict(output: &mut [u8], at: usize, i: u64, number: u64, value: u64) ->
     if number == 2 {
         return put_pair(output, at, i, b" allocated ", value);
     }
+    if number == 3 {
+        return put_field(output, at, i, b" cached\n");
+    }
     put_fault(output, at, i, number, value)
 }
 

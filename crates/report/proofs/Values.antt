@@ -1,6 +1,6 @@
 -- The value of a verdict, a size or an offset, is small: no verdict speaks of a byte behind the redzone. Assumes nothing.
 use mathlib.Core.Path.{_≡_, refl}
-use mathlib.Core.Bool.{_&&_, not}
+use mathlib.Core.Bool.{Bool, _&&_, not}
 use mathlib.Core.List.{List}
 use Prim.Native.Nat.{ℕ, _+_, _≤_, _<_}
 use native.Mathlib.Omega.{arith}
@@ -15,7 +15,7 @@ use Rattle.words.proofs.Tests.{by-test}
 use Rattle.tags.specs.Format.{wordBytes}
 use Rattle.tags.specs.SizeCode.{decodedOf}
 use Rattle.tags.specs.Tag.{patternOf, isNeither, isFree, isAllocated}
-use Rattle.tags.specs.Verdict.{verdictNumber, verdictValue}
+use Rattle.tags.specs.Verdict.{verdictNumber, verdictValue, isFoundFree}
 use Rattle.tags.specs.declared.format.Format.{Format}
 use Rattle.tags.specs.declared.size_code.Decoded.{Decoded}
 use Rattle.tags.specs.declared.size_code.Decoded.the-variants as decoded
@@ -28,9 +28,8 @@ use Rattle.chunks.specs.Header.{headerRight}
 use Rattle.chunks.specs.Judge.{byDifference, byDecoded, r1Of, freeVerdict, zoneVerdict, zoneAfter, sizedVerdict, codedVerdict, headerVerdict, headedVerdict, allocatedVerdict}
 use Rattle.geometry.specs.Sheet.{chunkPlace, recordAddress}
 use Rattle.sheet.specs.Areas.{Image, chunkAt}
-use Rattle.chain.specs.Chain.{chainOf}
 use Rattle.chain.specs.Pairing.{ownOf, byOwn}
-use Rattle.verdicts.specs.Judge.{chainedVerdict, ownedVerdict, standingOf, verdictOf}
+use Rattle.verdicts.specs.Judge.{isListed, isFreedTwice, isAtRest, restVerdict, chainedVerdict, ownedVerdict, standingOf, verdictOf}
 use Rattle.chain.specs.declared.pairing.Own.{Own}
 use Rattle.chain.specs.declared.pairing.Own.the-variants.{One, NotOne}
 use Rattle.verdicts.specs.declared.judge.Standing.{Standing}
@@ -94,16 +93,20 @@ module _ (f : Format) (c : List ℕ) where
   allocated-small =
       by-test (Small c) (eqb (verdictNumber (codedVerdict f c)) 2) (λ _. header-small (verdictValue (codedVerdict f c)) coded-small) (λ _. coded-small)
 
+  rest-small : (listed : Bool) → Small c (restVerdict listed (freeVerdict f c))
+  unfolding restVerdict
+  rest-small listed = by-test (Small c) (listed && isFoundFree (verdictNumber (freeVerdict f c))) (λ _. omega arith) (λ _. free-small)
+
   -- ---- one buffer
 
   chained-small : (p : Pattern) (s : Standing) → Small c (chainedVerdict f c p s)
   unfolding chainedVerdict
   chained-small p s =
       by-test (Small c) (isNeither p) (λ _. omega arith)
-      (λ _. by-test (Small c) (s .again) (λ _. omega arith)
-      (λ _. by-test (Small c) (isFree p && not (s .met)) (λ _. omega arith)
-      (λ _. by-test (Small c) (isAllocated p && s .met) (λ _. omega arith)
-      (λ _. by-test (Small c) (isFree p) (λ _. free-small) (λ _. allocated-small)))))
+      (λ _. by-test (Small c) (isFreedTwice s) (λ _. omega arith)
+      (λ _. by-test (Small c) (isFree p && not (isAtRest s)) (λ _. omega arith)
+      (λ _. by-test (Small c) (isAllocated p && isAtRest s) (λ _. omega arith)
+      (λ _. by-test (Small c) (isFree p) (λ _. rest-small (isListed s)) (λ _. allocated-small)))))
 
   owned-small : (a : ℕ) (s : Standing) → Small c (ownedVerdict f c a s)
   unfolding ownedVerdict
@@ -114,12 +117,12 @@ unfolding verdictOf
 value-small m i = go (ownOf m i)
   where
     go : (o : Own)
-        → verdictValue (byOwn o (λ j. ownedVerdict (m .sheet .format) (chunkAt m i) (recordAddress (m .sheet) j) (standingOf (chainOf m) j)) NotOneRecord)
+        → verdictValue (byOwn o (λ j. ownedVerdict (m .sheet .format) (chunkAt m i) (recordAddress (m .sheet) j) (standingOf m i j)) NotOneRecord)
         ≤ m .sheet .chunk + 8
     go (One j) =
         omega (
           arith,
-          owned-small (m .sheet .format) (chunkAt m i) (recordAddress (m .sheet) j) (standingOf (chainOf m) j),
+          owned-small (m .sheet .format) (chunkAt m i) (recordAddress (m .sheet) j) (standingOf m i j),
           part-most (m .heap) (chunkPlace (m .sheet) i) (m .sheet .chunk),
         )
     go NotOne = omega arith

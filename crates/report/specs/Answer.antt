@@ -8,7 +8,7 @@ use Rattle.tags.specs.declared.format.Profile.{Profile}
 use Rattle.tags.specs.declared.refusal.Refusal.the-variants.{ShortOutput}
 use Rattle.tags.specs.declared.refusal.Answer.{Answer}
 use Rattle.tags.specs.declared.refusal.Answer.the-variants.{Value, Refused}
-use Rattle.sheet.specs.Areas.{Areas, Image, openingWithLog, byImage}
+use Rattle.sheet.specs.Areas.{Areas, Image, openingWithLog, byMagazines, byListed}
 use Rattle.chain.specs.Chain.{chainOf}
 use Rattle.verdicts.specs.Judge.{verdictOf}
 use Rattle.lines.specs.Text.{textOf, writing}
@@ -35,6 +35,10 @@ reportedBy written.Short = Refused ShortOutput
 abbrev pub reporting : List ℕ → List ℕ → Filling Answer ℕ
 reporting text output = told reportedBy (writing text output)
 
--- G3 (the report), after E3 with the log
-unfoldable pub reportOf : Profile → Areas → ℕ → List ℕ → Filling Answer ℕ
-reportOf p a l output = byImage (openingWithLog p a l) a (λ m. reporting (reportText m) output) (λ why. unfilled (Refused why) output)
+-- G3 (the report of an open image, where its list is not refused)
+unfoldable pub reportImage : Image → List ℕ → Filling Answer ℕ
+reportImage m output = byMagazines (m .sheet) (m .magazines) (reporting (reportText m) output) (λ why. unfilled (Refused why) output)
+
+-- G3 (the report), after E3 with the log, of k bytes, and the magazine list l
+unfoldable pub reportOf : Profile → Areas → List ℕ → ℕ → List ℕ → Filling Answer ℕ
+reportOf p a l k output = byListed (openingWithLog p a k) a l (λ m. reporting (reportText m) output) (λ why. unfilled (Refused why) output)

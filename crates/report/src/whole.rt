@@ -4,7 +4,7 @@ ghost use Prim.Native.Nat.{ℕ, _+_, _*_, _^_, _≤_, _<_};
 ghost use lib.ListN.{length};
 ghost use Rattle.tags.specs.Filling.{filling};
 ghost use Rattle.sheet.specs.Opening.{Open};
-ghost use Rattle.sheet.specs.Areas.{imageIn};
+ghost use Rattle.sheet.specs.Areas.{imageListed};
 ghost use Rattle.chain.specs.Chain.{chainIn};
 ghost use Rattle.chain.specs.Marks.{marksIn};
 ghost use Rattle.lines.specs.Text.{Put, writing, faultsIn, mostBuffers, lineMost};
@@ -66,16 +66,17 @@ fn put_report(
     output: &mut [u8],
     heap: &[u8],
     records: &[u8],
+    magazines: &[u32],
     g: Sheet,
     marks: &[u8],
     met: usize,
     ending: Ending,
 ) -> usize
     requires { ⌜ Open (length (now heap)) (length (now records)) g ⌝ }
-    requires { ⌜ now marks ≡ marksIn g (now records) ⌝ }
+    requires { ⌜ now marks ≡ marksIn g (now records) (now magazines) ⌝ }
     requires { ⌜ met ≡ length (chainIn g (now records) .met) ⌝ }
     requires { ⌜ ending ≡ chainIn g (now records) .ending ⌝ }
-    ensures { λ r. ⌜ Put output 0 (reportText (imageIn g (heap .entry) (records .entry))) r ⌝ }
+    ensures { λ r. ⌜ Put output 0 (reportText (imageListed g (heap .entry) (records .entry) (magazines .entry))) r ⌝ }
 {
     let n = g.count;
     let mut rows = [0u32; 3 * BATCH];
@@ -84,7 +85,17 @@ fn put_report(
     let mut i = 0;
     while i < n {
         let count = batch(n - i);
-        judge::tell_buffers(heap, records, g, i, count, marks, ending, &mut rows);
+        judge::tell_buffers(
+            heap,
+            records,
+            magazines,
+            g,
+            i,
+            count,
+            marks,
+            ending,
+            &mut rows,
+        );
         at = put_rows(output, at, i, count, &rows);
         faults += count_faults(&rows, count);
         i += count;
@@ -99,24 +110,35 @@ pub(crate) fn write_report(
     output: &mut [u8],
     heap: &[u8],
     records: &[u8],
+    magazines: &[u32],
     g: Sheet,
     marks: &[u8],
     met: usize,
     ending: Ending,
 ) -> Written
     requires { ⌜ Open (length (now heap)) (length (now records)) g ⌝ }
-    requires { ⌜ now marks ≡ marksIn g (now records) ⌝ }
+    requires { ⌜ now marks ≡ marksIn g (now records) (now magazines) ⌝ }
     requires { ⌜ met ≡ length (chainIn g (now records) .met) ⌝ }
     requires { ⌜ ending ≡ chainIn g (now records) .ending ⌝ }
     ensures { λ r. ⌜ filling r (now (output .exit))
-        ≡ writing (reportText (imageIn g (heap .entry) (records .entry))) (now (output .entry)) ⌝ }
+        ≡ writing (reportText (imageListed g (heap .entry) (records .entry) (magazines .entry)))
+        (now (output .entry)) ⌝ }
 {
     if text::longest(g.count) <= output.len() {
-        return Written::Length(put_report(output, heap, records, g, marks, met, ending));
+        return Written::Length(put_report(output, heap, records, magazines, g, marks, met, ending));
     }
-    let need = put_report(&mut output[..0], heap, records, g, marks, met, ending);
+    let need = put_report(
+        &mut output[..0],
+        heap,
+        records,
+        magazines,
+        g,
+        marks,
+        met,
+        ending,
+    );
     if output.len() < need {
         return Written::Short;
     }
-    Written::Length(put_report(output, heap, records, g, marks, met, ending))
+    Written::Length(put_report(output, heap, records, magazines, g, marks, met, ending))
 }

@@ -5,11 +5,13 @@ use mathlib.Core.List.{List}
 use Prim.Native.Nat.{ℕ, _*_, _≤_}
 use native.Mathlib.Omega.{arith}
 use borrow.Author.Tests.{eqb-true}
-use lib.Dec.{eqb}
+use lib.Dec.{eqb, leb}
 use lib.ListN.{length}
 use Rattle.tags.specs.declared.format.Profile.{Profile}
 use Rattle.tags.specs.declared.refusal.Refusal.{Refusal}
-use Rattle.tags.specs.declared.refusal.Refusal.the-variants.{BadSheet, BadNumber, BadLength}
+use Rattle.tags.specs.declared.refusal.Refusal.the-variants.{BadSheet, BadNumber, BadLength, NoSuchBuffer}
+use Rattle.words.proofs.Tests.{by-test, map-test}
+use Rattle.sheet.specs.Areas.{allBuffers, byMagazines}
 use Rattle.sheet.specs.Opening.{Open, lengthsRight, areasOf, lengthsOf}
 use Rattle.sheet.specs.Fields.{shortLength, shaped, orderNumber, orderLawful, sheetOf}
 use Rattle.geometry.specs.Limits.{lawful, countMost}
@@ -96,6 +98,19 @@ lengths-known p s h r e = go (shaped s) (orderLawful (orderNumber s)) (lawful (s
     go false o b q f = absurd (let z : _≡_ {A = ℕ} 0 1 = cc in omega arith)
 
 -- what holds of an image that opens, and of every refusal, holds by the opening
+-- what holds of the rest where a magazine list is lawful, and of each refusal where it is not
+pub by-magazines : {A : Type 0} {rest : A} {shut : Refusal → A} (P : A → Type 0) (g : Sheet) (l : List ℕ) → P rest → ((why : Refusal) → P (shut why))
+    → P (byMagazines g l rest shut)
+by-magazines {A} {rest} {shut} P g l h k =
+    by-test P (leb (length l) (g .count)) (λ _. by-test P (allBuffers g l) (λ _. h) (λ _. k NoSuchBuffer)) (λ _. k BadLength)
+
+-- what is made of the one or the other
+pub map-magazines : {A B : Type 0} (h : A → B) (g : Sheet) (l : List ℕ) (rest : A) (shut : Refusal → A)
+    → h (byMagazines g l rest shut) ≡ byMagazines g l (h rest) (λ why. h (shut why))
+map-magazines h g l rest shut =
+    map-test h (leb (length l) (g .count)) (cond (allBuffers g l) rest (shut NoSuchBuffer)) (shut BadLength)
+    ∙ ap (λ x. cond (leb (length l) (g .count)) x (h (shut BadLength))) (map-test h (allBuffers g l) rest (shut NoSuchBuffer))
+
 pub by-opened : {A : Type 0} {f : Sheet → A} {shut : Refusal → A} (P : A → Type 0) (o : Opened)
     → ((g : Sheet) → o ≡ opened.Sheet g → P (f g)) → ((why : Refusal) → P (shut why)) → P (byOpened o f shut)
 by-opened P (opened.Sheet g) h k = h g refl

@@ -42,7 +42,8 @@ fn tell_refusal(why: Refusal) {
 // Writes the answer to an image: the report, or why there is none.
 fn tell(profile: Profile, sheet: &[u8], heap: &[u8], records: &[u8], log: &[u8]) {
     let mut output = [0u8; 1024];
-    let told = answer::report(profile, sheet, heap, records, log, &mut output);
+    let none = [0u32; 0];
+    let told = answer::report(profile, sheet, heap, records, &none, log, &mut output);
     match told {
         Answer::Value(n) => write_out(&output, n as usize),
         Answer::Refused(why) => tell_refusal(why),

@@ -1,5 +1,5 @@
 -- What the report says, as numbers: three for each buffer and three for the chain. Assumes nothing.
-use mathlib.Core.Bool.{_&&_, cond}
+use mathlib.Core.Bool.{Bool, _&&_, cond}
 use mathlib.Core.List.{List, [], _∷_}
 use Prim.Native.Nat.{ℕ, _*_}
 use lib.Dec.{leb}
@@ -12,7 +12,7 @@ use Rattle.tags.specs.declared.refusal.Refusal.{Refusal}
 use Rattle.tags.specs.declared.refusal.Refusal.the-variants.{ShortOutput}
 use Rattle.tags.specs.declared.refusal.Answer.{Answer}
 use Rattle.tags.specs.declared.refusal.Answer.the-variants.{Value, Refused}
-use Rattle.sheet.specs.Areas.{Areas, Image, openingWithLog, byImage}
+use Rattle.sheet.specs.Areas.{Areas, Image, openingWithLog, byListed}
 use Rattle.chain.specs.Chain.{Chain, chainOf}
 use Rattle.survey.specs.Table.{tableOf}
 
@@ -37,11 +37,15 @@ numbering answer rows chain = record { answer = answer; rows = rows; chain = cha
 abbrev pub unnumbered : List ℕ → List ℕ → Refusal → Numbered Answer
 unnumbered rows chain why = numbering (Refused why) rows chain
 
--- E8 (X11, after E3 with the log), F5: the need is three numbers for each buffer, and three for the chain
-unfoldable pub surveyNumbersOf : Profile → Areas → ℕ → List ℕ → List ℕ → Numbered Answer
-surveyNumbersOf p a l rows chain =
-    byImage (openingWithLog p a l) a
-    (λ m. cond (leb (m .sheet .count * 3) (length rows) && leb 3 (length chain))
+-- F5 (the need: three numbers for each of n buffers, and three for the chain), of rows so long
+abbrev pub roomFor : ℕ → ℕ → ℕ → Bool
+roomFor n rows chain = leb (n * 3) rows && leb 3 chain
+
+-- E8 (X11, after E3 with the log, of k bytes, and the magazine list l), F5
+unfoldable pub surveyNumbersOf : Profile → Areas → List ℕ → ℕ → List ℕ → List ℕ → Numbered Answer
+surveyNumbersOf p a l k rows chain =
+    byListed (openingWithLog p a k) a l
+    (λ m. cond (roomFor (m .sheet .count) (length rows) (length chain))
     (numbering (Value (m .sheet .count)) (sets rows 0 (tableOf m)) (sets chain 0 (numbersOf (chainOf m))))
     (unnumbered rows chain ShortOutput))
     (unnumbered rows chain)

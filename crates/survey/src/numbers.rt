@@ -4,16 +4,17 @@ ghost use Prim.Native.Nat.{_≤_, _<_};
 ghost use lib.ListN.{length};
 ghost use lib.Seq.{sets};
 ghost use Rattle.tags.specs.Ending.{endingValue};
+ghost use Rattle.geometry.specs.Limits.{countMost};
 ghost use Rattle.sheet.specs.Areas.{before};
-ghost use Rattle.survey.specs.Numbers.{chainNumbers, numbering, surveyNumbersOf};
+ghost use Rattle.survey.specs.Numbers.{chainNumbers, numbering, roomFor, surveyNumbersOf};
 use crate::table;
+use chain::marks::Marked;
 use sheet::opening;
 use sheet::opening::Opened;
 use tags::ending;
 use tags::ending::Ending;
 use tags::format::Profile;
 use tags::refusal::Answer;
-use tags::refusal::Refusal;
 
 // The record that a chain came back to, else 0.
 fn ending_value(e: Ending) -> u32
@@ -39,6 +40,17 @@ fn put_chain(chain: &mut [u32], met: usize, e: Ending)
     chain[2] = ending_value(e);
 }
 
+// Whether two rows of these lengths have room for three numbers of each of n buffers, and for three of the chain.
+fn has_room(n: usize, rows: usize, chain: usize) -> bool
+    requires { ⌜ n ≤ countMost ⌝ }
+    ensures { λ r. ⌜ r ≡ roomFor n rows chain ⌝ }
+{
+    if rows < n * 3 {
+        return false;
+    }
+    3 <= chain
+}
+
 // Fills a lent row with three numbers for each buffer and another with the three of the chain, of an image with a log; or
 // refuses and leaves both as they were.
 pub fn survey_numbers(
@@ -46,12 +58,13 @@ pub fn survey_numbers(
     sheet: &[u8],
     heap: &[u8],
     records: &[u8],
+    magazines: &[u32],
     log: &[u8],
     rows: &mut [u32],
     chain: &mut [u32],
 ) -> Answer
     ensures { λ r. ⌜ numbering r (now (rows .exit)) (now (chain .exit))
-        ≡ surveyNumbersOf profile (before sheet heap records) (length (now (log .entry)))
+        ≡ surveyNumbersOf profile (before sheet heap records) (now (magazines .entry)) (length (now (log .entry)))
         (now (rows .entry)) (now (chain .entry)) ⌝ }
 {
     let opened = opening::open_with_log(profile, sheet, heap.len(), records.len(), log.len());
@@ -59,16 +72,16 @@ pub fn survey_numbers(
         Opened::Refused(why) => Answer::Refused(why),
         Opened::Sheet(g) => {
             let n = g.count;
-            if rows.len() < n * 3 {
-                return Answer::Refused(Refusal::ShortOutput);
+            let room = has_room(n, rows.len(), chain.len());
+            let marked = table::fill_table(heap, records, magazines, g, room, rows);
+            match marked {
+                Marked::Refused(why) => Answer::Refused(why),
+                Marked::Chain(walked) => {
+                    let e = walked.ending;
+                    put_chain(chain, walked.met, e);
+                    Answer::Value(n as u32)
+                }
             }
-            if chain.len() < 3 {
-                return Answer::Refused(Refusal::ShortOutput);
-            }
-            let walked = table::fill_table(heap, records, g, rows);
-            let e = walked.ending;
-            put_chain(chain, walked.met, e);
-            Answer::Value(n as u32)
         }
     }
 }

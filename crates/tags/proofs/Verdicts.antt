@@ -6,7 +6,7 @@ use Rattle.tags.specs.Verdict.{codeNumber, toldOf, ofTold}
 use Rattle.tags.specs.declared.size_code.BadCode.{BadCode}
 use Rattle.tags.specs.declared.size_code.BadCode.the-variants.{Remainder, Zero, Above}
 use Rattle.tags.specs.declared.verdict.Verdict.{Verdict}
-use Rattle.tags.specs.declared.verdict.Verdict.the-variants.{Free, Whole, Allocated, NotOneRecord, BadTag, FreedTwice}
+use Rattle.tags.specs.declared.verdict.Verdict.the-variants.{Free, Whole, Allocated, Cached, NotOneRecord, BadTag, FreedTwice}
 use Rattle.tags.specs.declared.verdict.Verdict.the-variants.{OffChain, OnChain, BadFill, BadRedzone, BadSizeCode, Overrun, BadHeader}
 
 -- however a size code is bad, it is a fault, and its number has two digits
@@ -21,6 +21,7 @@ unfolding ofTold
 told-back Free = refl
 told-back Whole = refl
 told-back (Allocated s) = refl
+told-back Cached = refl
 told-back NotOneRecord = refl
 told-back BadTag = refl
 told-back FreedTwice = refl

@@ -6,7 +6,8 @@ use Rattle.tags.specs.declared.size_code.BadCode.{BadCode}
 use Rattle.tags.specs.declared.size_code.BadCode.the-variants.{Remainder, Zero, Above}
 use Rattle.tags.specs.declared.verdict.Told.{Told}
 use Rattle.tags.specs.declared.verdict.Verdict.{Verdict}
-use Rattle.tags.specs.declared.verdict.Verdict.the-variants.{Free, Whole, Allocated, NotOneRecord, BadTag, FreedTwice, OffChain, OnChain, BadFill, BadRedzone, BadSizeCode, Overrun, BadHeader}
+use Rattle.tags.specs.declared.verdict.Verdict.the-variants.{Free, Whole, Allocated, Cached, NotOneRecord, BadTag, FreedTwice}
+use Rattle.tags.specs.declared.verdict.Verdict.the-variants.{OffChain, OnChain, BadFill, BadRedzone, BadSizeCode, Overrun, BadHeader}
 
 -- V27 wrong remainder, V31 size zero, V32 above the buffer size: what is bad in a size code
 abbrev pub codeNumber : BadCode → ℕ
@@ -14,11 +15,12 @@ codeNumber Remainder = 27
 codeNumber Zero = 31
 codeNumber Above = 32
 
--- V0 free, V1 whole, V2 allocated s, and the faults V20 to V28 and V30 to V32: the rule's number is the verdict's
+-- V0 free, V1 whole, V2 allocated s, V3 cached, and the faults V20 to V28 and V30 to V32: the rule's number is the verdict's
 abbrev pub verdictNumber : Verdict → ℕ
 verdictNumber Free = 0
 verdictNumber Whole = 1
 verdictNumber (Allocated s) = 2
+verdictNumber Cached = 3
 verdictNumber NotOneRecord = 20
 verdictNumber BadTag = 21
 verdictNumber FreedTwice = 22
@@ -35,6 +37,7 @@ abbrev pub verdictValue : Verdict → ℕ
 verdictValue Free = 0
 verdictValue Whole = 0
 verdictValue (Allocated s) = s
+verdictValue Cached = 0
 verdictValue NotOneRecord = 0
 verdictValue BadTag = 0
 verdictValue FreedTwice = 0
@@ -56,6 +59,7 @@ ofTold t =
     cond (eqb (t .number) 0) Free
     (cond (eqb (t .number) 1) Whole
     (cond (eqb (t .number) 2) (Allocated (t .value))
+    (cond (eqb (t .number) 3) Cached
     (cond (eqb (t .number) 20) NotOneRecord
     (cond (eqb (t .number) 21) BadTag
     (cond (eqb (t .number) 22) FreedTwice
@@ -66,7 +70,7 @@ ofTold t =
     (cond (eqb (t .number) 27) (BadSizeCode Remainder)
     (cond (eqb (t .number) 28) (Overrun (t .value))
     (cond (eqb (t .number) 31) (BadSizeCode Zero)
-    (cond (eqb (t .number) 32) (BadSizeCode Above) BadHeader)))))))))))))
+    (cond (eqb (t .number) 32) (BadSizeCode Above) BadHeader))))))))))))))
 
 -- ---- what a verdict says, by its number
 

@@ -1,2 +1,3 @@
 pub mod Tagged
 pub mod Rows
+pub mod Standings

@@ -11,7 +11,6 @@ use Rattle.tags.specs.declared.verdict.Verdict.{Verdict}
 use Rattle.tags.specs.declared.verdict.Verdict.the-variants.{NotOneRecord, BadTag}
 use Rattle.geometry.specs.Sheet.{bufferAddress, recordAddress}
 use Rattle.sheet.specs.Areas.{Image, chunkAt}
-use Rattle.chain.specs.Chain.{chainOf}
 use Rattle.chain.specs.Pairing.{ownOf, byOwn}
 use Rattle.chain.specs.Marks.{namesAfter}
 use Rattle.chain.specs.declared.pairing.Own.{Own}
@@ -28,7 +27,7 @@ module _ (m : Image) (i : ℕ) where
   tag = tagAt (m .sheet .format) (chunkAt m i)
 
   abbrev of-own : Own → Verdict
-  of-own o = byOwn o (λ j. ownedVerdict (m .sheet .format) (chunkAt m i) (recordAddress (m .sheet) j) (standingOf (chainOf m) j)) NotOneRecord
+  of-own o = byOwn o (λ j. ownedVerdict (m .sheet .format) (chunkAt m i) (recordAddress (m .sheet) j) (standingOf m i j)) NotOneRecord
 
   verdict-by : (o : Own) → ownOf m i ≡ o → verdictOf m i ≡ of-own o
   unfolding verdictOf
@@ -50,7 +49,7 @@ module _ (m : Image) (i : ℕ) where
   -- T0 is the address of a record that names the buffer
   pub verdict-one : (j : ℕ) → Names ≡ 1 → j < m .sheet .count → addressWord (m .sheet .format) (m .records) j ≡ bufferAddress (m .sheet) i
       → tag .t0 ≡ recordAddress (m .sheet) j
-      → verdictOf m i ≡ chainedVerdict (m .sheet .format) (chunkAt m i) (patternOf tag) (standingOf (chainOf m) j)
+      → verdictOf m i ≡ chainedVerdict (m .sheet .format) (chunkAt m i) (patternOf tag) (standingOf m i j)
   unfolding ownedVerdict
   verdict-one j c l w e =
       verdict-by (One j) (own-one (m .sheet) (m .records) i j c l w) ∙ simp (eq-eqb (tag .t0) (recordAddress (m .sheet) j) e)

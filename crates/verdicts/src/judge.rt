@@ -5,14 +5,15 @@ ghost use lib.ListN.{length};
 ghost use lib.Seq.{sets};
 ghost use Rattle.tags.specs.Tag.{patternOf};
 ghost use Rattle.tags.specs.Verdict.{toldOf};
+ghost use Rattle.tags.specs.declared.verdict.Verdict.{Verdict};
 ghost use Rattle.chunks.specs.Chunk.{ChunkLength};
 ghost use Rattle.geometry.specs.Sheet.{recordOf};
 ghost use Rattle.geometry.specs.Limits.{Lawful, countMost};
 ghost use Rattle.sheet.specs.Opening.{Open};
-ghost use Rattle.sheet.specs.Areas.{imageIn};
+ghost use Rattle.sheet.specs.Areas.{imageListed};
 ghost use Rattle.chain.specs.Chain.{chainIn};
 ghost use Rattle.chain.specs.Marks.{marksIn};
-ghost use Rattle.verdicts.specs.Judge.{chainedVerdict, againAt, againIndex, verdictOf, rowOf, rowsOf};
+ghost use Rattle.verdicts.specs.Judge.{isFreedTwice, isAtRest, restVerdict, chainedVerdict, againAt, againIndex, verdictOf, rowOf, rowsOf};
 use area::place::Place;
 use chain::marks;
 use chunks::chunk;
@@ -28,10 +29,49 @@ use tags::verdict;
 use tags::verdict::Told;
 use tags::verdict::Verdict;
 
-// What the chain says of a buffer's own record: whether it is met, and whether the chain is "again" at it.
+// What the chain says of a buffer's own record, whether it is met and whether the chain is "again" at it; and how often the buffer is
+// listed, 0, 1, or 2 for more.
 pub struct Standing {
     pub met: bool,
     pub again: bool,
+    pub listed: u8,
+}
+
+impl Standing {
+    // Whether the buffer was freed twice: it stands in two places, or in one place twice.
+    fn is_freed_twice(self) -> bool
+        ensures { λ r. ⌜ r ≡ isFreedTwice self ⌝ }
+    {
+        if self.again {
+            return true;
+        }
+        if self.met {
+            return self.listed != 0;
+        }
+        self.listed >= 2
+    }
+
+    // Whether the buffer stands where a free one does: on the chain or in the list.
+    fn is_at_rest(self) -> bool
+        ensures { λ r. ⌜ r ≡ isAtRest self ⌝ }
+    {
+        if self.met {
+            return true;
+        }
+        self.listed != 0
+    }
+}
+
+// The verdict on a buffer at rest, given the one on its chunk: a sound one that is listed is cached.
+fn judge_rest(listed: bool, t: Told) -> Told
+    ensures { λ r. ⌜ ((v : Verdict) → t ≡ toldOf v → r ≡ toldOf (restVerdict listed v)) ⌝ }
+{
+    if listed {
+        if t.number == 0 {
+            return verdict::tell(Verdict::Cached);
+        }
+    }
+    t
 }
 
 // The rules from 22 on, and 21 for a tag of neither pattern.
@@ -40,19 +80,19 @@ fn judge_chained(f: Format, chunk: &[u8], tag: Tag, s: Standing) -> Told
     ensures { λ r. ⌜ r ≡ toldOf (chainedVerdict f (now (chunk .entry)) (patternOf tag) s) ⌝ }
 {
     if tag.is_free() {
-        if s.again {
+        if s.is_freed_twice() {
             return verdict::tell(Verdict::FreedTwice);
         }
-        if s.met {
-            return judge::judge_free(f, chunk);
+        if s.is_at_rest() {
+            return judge_rest(s.listed != 0, judge::judge_free(f, chunk));
         }
         return verdict::tell(Verdict::OffChain);
     }
     if tag.is_allocated() {
-        if s.again {
+        if s.is_freed_twice() {
             return verdict::tell(Verdict::FreedTwice);
         }
-        if s.met {
+        if s.is_at_rest() {
             return verdict::tell(Verdict::OnChain);
         }
         let t = judge::judge_coded(f, chunk);
@@ -95,10 +135,12 @@ fn again_at(ending: Ending, j: usize) -> bool
 }
 
 // The verdict on buffer i, by the marks and the chain's ending. Where one record alone names the buffer, T0 is its own record's
-// address exactly when it is the address of a record that names the buffer.
+// address exactly when it is the address of a record that names the buffer. Of the magazine list the marks tell all that is asked; it
+// is passed so that the contract can name the image.
 pub fn judge_buffer(
     heap: &[u8],
     records: &[u8],
+    magazines: &[u32],
     g: Sheet,
     i: usize,
     marks: &[u8],
@@ -106,11 +148,12 @@ pub fn judge_buffer(
 ) -> Told
     requires { ⌜ Open (length (now heap)) (length (now records)) g ⌝ }
     requires { ⌜ i < g .count ⌝ }
-    requires { ⌜ now marks ≡ marksIn g (now records) ⌝ }
+    requires { ⌜ now marks ≡ marksIn g (now records) (now magazines) ⌝ }
     requires { ⌜ ending ≡ chainIn g (now records) .ending ⌝ }
-    ensures { λ r. ⌜ r ≡ toldOf (verdictOf (imageIn g (heap .entry) (records .entry)) i) ⌝ }
+    ensures { λ r. ⌜ r ≡ toldOf (verdictOf (imageListed g (heap .entry) (records .entry) (magazines .entry)) i) ⌝ }
 {
-    if marks::read(marks[i]).names != 1 {
+    let digits = marks::read(marks[i]);
+    if digits.names != 1 {
         return verdict::tell(Verdict::NotOneRecord);
     }
     let f = g.format;
@@ -126,6 +169,7 @@ pub fn judge_buffer(
             let s = Standing {
                 met: marks::read(marks[j]).met,
                 again: again_at(ending, j),
+                listed: digits.listed,
             };
             judge_chained(f, chunk, tag, s)
         }
@@ -149,6 +193,7 @@ fn put_row(rows: &mut [u32], k: usize, i: usize, t: Told)
 pub fn tell_buffers(
     heap: &[u8],
     records: &[u8],
+    magazines: &[u32],
     g: Sheet,
     from: usize,
     count: usize,
@@ -158,15 +203,16 @@ pub fn tell_buffers(
 )
     requires { ⌜ Open (length (now heap)) (length (now records)) g ⌝ }
     requires { ⌜ from + count ≤ g .count ⌝ }
-    requires { ⌜ now marks ≡ marksIn g (now records) ⌝ }
+    requires { ⌜ now marks ≡ marksIn g (now records) (now magazines) ⌝ }
     requires { ⌜ ending ≡ chainIn g (now records) .ending ⌝ }
     requires { ⌜ count * 3 ≤ length (now rows) ⌝ }
     ensures { λ _. ⌜ now (rows .exit)
-        ≡ sets (now (rows .entry)) 0 (rowsOf (imageIn g (heap .entry) (records .entry)) from count) ⌝ }
+        ≡ sets (now (rows .entry)) 0
+        (rowsOf (imageListed g (heap .entry) (records .entry) (magazines .entry)) from count) ⌝ }
 {
     let mut k = 0;
     while k < count {
-        let t = judge_buffer(heap, records, g, from + k, marks, ending);
+        let t = judge_buffer(heap, records, magazines, g, from + k, marks, ending);
         put_row(rows, k, from + k, t);
         k += 1;
     }

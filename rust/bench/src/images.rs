@@ -1,6 +1,7 @@
 //! The images that are timed.
 
 use differential::hurt::{Hurt, HURTS};
+use differential::magazines::cache;
 use differential::{word_bytes, Form, Image, Sequence, Shape};
 use reference::{allocate, free, Grant, Order};
 
@@ -49,6 +50,15 @@ pub fn shape(size: usize, count: usize) -> Shape {
 /// Every buffer is free, and the chain goes through the records in order.
 pub fn all_free(form: Form, size: usize, count: usize) -> Image {
     Image::laid_out(form, shape(size, count), [0; 5])
+}
+
+/// Every buffer is free and in a magazine, and the chain is empty. Each word of the list is so
+/// many buffers behind the one before it.
+pub fn all_cached(form: Form, size: usize, count: usize, step: usize) -> Image {
+    let mut image = all_free(form, size, count);
+    let records: Vec<usize> = (0..count).map(|i| i * step % count).collect();
+    cache(&mut image, &records);
+    image
 }
 
 /// Every second buffer is out.

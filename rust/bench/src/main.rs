@@ -5,11 +5,13 @@ mod calls;
 mod fill;
 mod growth;
 mod limits;
+mod lists;
 mod orders;
 mod placed;
 mod plain;
 mod reader;
 mod requirement;
+mod sides;
 mod table;
 mod timing;
 
@@ -23,9 +25,10 @@ Nothing is cleared before a call: rows, outputs and areas hold what the call bef
 left there.
 
 The second program is timed as it stands. Its inspect fills lent rows, as the library's
-does, but makes `Vec`s on the way: of the records that name each buffer, of the records
-met, and of the verdicts. Latest makes the first of these. Its report makes a `String`
-for each line and for the text, which it copies to the output.";
+does, but makes `Vec`s on the way: of how often each buffer is listed, of the records that
+name each buffer, of the records met, and of the verdicts. Latest makes the second of
+these. Its report makes a `String` for each line and for the text, which it copies to the
+output.";
 
 const READER: &str = "
 ### Inspect and report
@@ -54,6 +57,16 @@ the high byte first. In the other tables all images are of the kernel profile. F
 is no requirement:
 ";
 
+const LISTS: &str = "
+### Magazine lists
+
+Inspect with a list of n words, one for each buffer: every buffer is free, in a magazine and off
+the chain. First beside as many free buffers that are on the chain, with no list: the fill of
+each is compared on both sides. Then beside the same image without its list, where no buffer is
+on the chain or in a magazine, so that no fill is compared. In the other tables the list is
+empty, but where they say otherwise. For this there is no requirement:
+";
+
 const PLAIN: &str = "
 ### Beside plain C
 
@@ -62,6 +75,11 @@ The same calls as a C programmer would write them in place of the library's
 free fill by `memcmp`, and a buffer is filled from such a page by `memcpy`. Answers, rows
 and areas are the same. Plain C has a loop for each order, compiled apart; the limits are
 for the high byte first.
+";
+
+const LISTED: &str = "
+With a magazine list of n words, where every buffer is in a magazine. For this there is no
+requirement:
 ";
 
 const FILL: &str = "
@@ -117,25 +135,22 @@ noise.
 | requirement | at most | worst | where | cases that keep it | |
 |---|--:|--:|---|--:|---|";
 
-fn main() -> ExitCode {
-    let least = LEAST_SAMPLE / 1000.0;
-    println!(
-        "Times are nanoseconds of one call, the median of {SAMPLES} samples. A sample is as many"
-    );
-    println!("calls as take {least} µs or more. The calls of one row are sampled in turns, and a");
-    println!("ratio is the median of the turns' ratios.");
-    println!("{SIDES}");
-
+/// Prints every table, and answers what the times have to keep to.
+fn time_all() -> Vec<Requirement> {
     println!("{READER}");
     let mut requirements = Vec::from(reader::time_reader());
     println!("{ORDERS}");
     requirements.push(orders::time_orders());
     println!("{PROFILES}");
     orders::time_profiles();
+    println!("{LISTS}");
+    lists::time_lists();
     println!("{PLAIN}");
     requirements.extend(plain::time_plain());
     println!("{PAGED}");
     plain::time_paged();
+    println!("{LISTED}");
+    plain::time_listed();
     println!("{FILL}");
     requirements.extend(fill::time_equal());
     println!("{EARLY}");
@@ -150,7 +165,19 @@ fn main() -> ExitCode {
     reader::time_latest();
     println!("{CALLS}");
     requirements.push(calls::time_calls());
+    requirements
+}
 
+fn main() -> ExitCode {
+    let least = LEAST_SAMPLE / 1000.0;
+    println!(
+        "Times are nanoseconds of one call, the median of {SAMPLES} samples. A sample is as many"
+    );
+    println!("calls as take {least} µs or more. The calls of one row are sampled in turns, and a");
+    println!("ratio is the median of the turns' ratios.");
+    println!("{SIDES}");
+
+    let requirements = time_all();
     println!("{REQUIREMENTS}");
     for requirement in &requirements {
         println!("{requirement}");

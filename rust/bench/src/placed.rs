@@ -26,11 +26,13 @@ impl Placed {
     }
 }
 
-/// What inspect is lent of an image, each area at the same place in a page.
+/// What inspect is lent of an image, each area at the same place in a page, and the magazine
+/// list with it.
 pub struct Lent {
     pub sheet: Placed,
     pub heap: Placed,
     pub records: Placed,
+    pub magazines: Vec<u32>,
 }
 
 impl Lent {
@@ -39,6 +41,7 @@ impl Lent {
             sheet: Placed::new(&image.sheet, behind),
             heap: Placed::new(&image.heap, behind),
             records: Placed::new(&image.records, behind),
+            magazines: image.magazines.clone(),
         }
     }
 }

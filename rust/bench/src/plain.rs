@@ -2,7 +2,7 @@
 
 use std::hint::black_box;
 
-use bench::images::{all_free, half_allocated, hurt, logged, Make, LARGEST, MOST_ROWS};
+use bench::images::{all_cached, all_free, half_allocated, hurt, logged, Make, LARGEST, MOST_ROWS};
 use differential::{Form, Image, KERNEL_LONG_FORMS};
 use reference::Order;
 
@@ -36,6 +36,24 @@ pub fn time_plain() -> Vec<Requirement> {
     let calls = [time_inspect, time_latest, time_pairs];
     let [high, _low] = KERNEL_LONG_FORMS.map(|form| calls.map(|time| time(form)));
     Vec::from(high)
+}
+
+/// Times inspect with every buffer in a magazine: a list of n words, in order and about half
+/// the buffers apart.
+pub fn time_listed() {
+    println!("{HEAD}");
+    for form in KERNEL_LONG_FORMS {
+        let call = named("inspect", form);
+        for (size, count) in LARGEST {
+            for (order, step) in [("in order", 1), ("in long jumps", count / 2 + 1)] {
+                let image = all_cached(form, size, count, step);
+                assert_eq!(faults_found(&image), 0, "{size} x {count}");
+                let [rattle, plain] = race_inspect(&Lent::new(&image, BEHIND), count);
+                let row = format!("{call}, {size} x {count}, all in magazines, words {order}");
+                print_row(&row, &rattle, &plain);
+            }
+        }
+    }
 }
 
 /// Times inspect of long buffers where the areas begin pages.
@@ -93,15 +111,17 @@ fn race_inspect(lent: &Lent, count: usize) -> [Times; 2] {
     let mut rows = vec![0; 3 * count];
     let mut plain_rows = rows.clone();
     let (sheet, heap, records) = (lent.sheet.part(), lent.heap.part(), lent.records.part());
+    let list = &lent.magazines;
     race([
         Box::new(|| {
             let rows = black_box(&mut rows);
             let heap = black_box(heap);
-            check(combgallop::inspect_answer(KERNEL, sheet, heap, records, rows).0);
+            check(combgallop::inspect_answer(KERNEL, sheet, heap, records, list, rows).0);
         }),
         Box::new(|| {
             let rows = black_box(&mut plain_rows);
-            check(timed::plain_inspect(sheet, black_box(heap), records, rows));
+            let heap = black_box(heap);
+            check(timed::plain_inspect(sheet, heap, records, list, rows));
         }),
     ])
 }
@@ -112,8 +132,9 @@ fn faults_found(image: &Image) -> usize {
     let (sheet, heap, records) = (&image.sheet, &image.heap, &image.records);
     let mut rows = vec![0; 3 * image.shape.count];
     let mut plain_rows = rows.clone();
-    let answer = combgallop::inspect_answer(KERNEL, sheet, heap, records, &mut rows);
-    let plain_answer = timed::plain_inspect(sheet, heap, records, &mut plain_rows);
+    let list = &image.magazines;
+    let answer = combgallop::inspect_answer(KERNEL, sheet, heap, records, list, &mut rows);
+    let plain_answer = timed::plain_inspect(sheet, heap, records, list, &mut plain_rows);
     assert_eq!(answer.0, plain_answer, "inspect");
     assert_eq!(rows, plain_rows, "inspect");
     rows.chunks_exact(3).filter(|row| row[1] >= 20).count()

@@ -122,13 +122,15 @@ fn faults_found(case: &str, image: &Image) -> usize {
 
 pub fn inspect_by_library(image: &Image, rows: &mut [u32]) {
     let (sheet, heap, records) = (&image.sheet, &image.heap, &image.records);
-    let answer = combgallop::inspect(combgallop::Profile::Kernel, sheet, heap, records, rows);
+    let (profile, list) = (combgallop::Profile::Kernel, &image.magazines);
+    let answer = combgallop::inspect(profile, sheet, heap, records, list, rows);
     black_box(answer).expect("a lawful image");
 }
 
 pub fn inspect_by_second(image: &Image, rows: &mut [Finding]) {
     let (sheet, heap, records) = (&image.sheet, &image.heap, &image.records);
-    let answer = reference::inspect(reference::Profile::Kernel, sheet, heap, records, rows);
+    let (profile, list) = (reference::Profile::Kernel, &image.magazines);
+    let answer = reference::inspect(profile, sheet, heap, records, list, rows);
     black_box(answer).expect("a lawful image");
 }
 
@@ -138,10 +140,11 @@ fn report_by_library(image: &Image, output: &mut [u8]) {
         heap,
         records,
         log,
+        magazines,
         ..
     } = image;
     let profile = combgallop::Profile::Kernel;
-    let answer = combgallop::report(profile, sheet, heap, records, log, output);
+    let answer = combgallop::report(profile, sheet, heap, records, magazines, log, output);
     black_box(answer).expect("a lawful image");
 }
 
@@ -151,10 +154,11 @@ fn report_by_second(image: &Image, output: &mut [u8]) {
         heap,
         records,
         log,
+        magazines,
         ..
     } = image;
     let profile = reference::Profile::Kernel;
-    let answer = reference::report(profile, sheet, heap, records, log, output);
+    let answer = reference::report(profile, sheet, heap, records, magazines, log, output);
     black_box(answer).expect("a lawful image");
 }
 

@@ -68,10 +68,16 @@ impl Fault {
                 "the buffer's tag does not name its record, or says neither free nor allocated"
             }
             Fault::FreedTwice => {
-                "the buffer was freed twice: the chain of free buffers comes back to it"
+                "the buffer was freed twice: the chain of free buffers comes back to it, or it is \
+                 in magazines twice or more, or in one and on the chain"
             }
-            Fault::OffChain => "the buffer is tagged free but not on the chain of free buffers",
-            Fault::OnChain => "the buffer is tagged allocated but on the chain of free buffers",
+            Fault::OffChain => {
+                "the buffer is tagged free but neither on the chain of free buffers nor in a \
+                 magazine"
+            }
+            Fault::OnChain => {
+                "the buffer is tagged allocated but on the chain of free buffers or in a magazine"
+            }
             Fault::BadFill => "the buffer was written to after it was freed",
             Fault::BadRedzone => "the eight bytes behind the free buffer were written to",
             Fault::BadSizeCode(_) => {

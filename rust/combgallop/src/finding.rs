@@ -77,8 +77,8 @@ mod tests {
     }
 
     #[test]
-    #[should_panic(expected = "verdict [3, 0], which no rule names")]
+    #[should_panic(expected = "verdict [4, 0], which no rule names")]
     fn number_of_no_verdict() {
-        Findings::new(&[0, 3, 0], 1).next();
+        Findings::new(&[0, 4, 0], 1).next();
     }
 }

@@ -81,8 +81,13 @@ impl Refusal {
                  not the 52 bytes that lay out writes"
             }
             Refusal::BadNumber => "a number of the sheet breaks a limit, or its order is none",
-            Refusal::BadLength => "the heap, the records or the log have a wrong length",
-            Refusal::NoSuchBuffer => "no buffer has this address or index",
+            Refusal::BadLength => {
+                "the heap, the records or the log have a wrong length, or there are more magazine \
+                 words than buffers"
+            }
+            Refusal::NoSuchBuffer => {
+                "no buffer starts at the address or at one of the magazine words, or has the index"
+            }
             Refusal::NoRoom => "no buffer is left on the chain of free buffers",
             Refusal::BadSize => {
                 "the size asked for is 0 or above the buffer size, less 8 under the userland profile"

@@ -9,18 +9,42 @@ pub struct Survey<'a> {
     pub chain: Chain,
 }
 
-/// Judges every buffer and walks the chain. Fills three of the numbers lent for each
-/// buffer, as `inspect` does, and hands back what they say. A refusal changes nothing.
+/// Judges every buffer, with a list of magazine words as `inspect` takes it, and walks the
+/// chain. Fills three of the numbers lent for each buffer, as `inspect` does, and hands back
+/// what they say. A refusal changes nothing.
+///
+/// ```
+/// use combgallop::{lay_out, survey, Chain, Ending, Order, Profile, Refusal, Verdict};
+///
+/// let (mut sheet, mut heap, mut records) = ([0; 52], [0; 2 * 24], [0; 2 * 96]);
+/// let (profile, order) = (Profile::Kernel, Order::HighFirst);
+/// lay_out(
+///     profile, order, 0x70, 0x1000, 0x2000, 8, 2, &mut sheet, &mut heap, &mut records,
+/// )?;
+/// // The chain now starts at the second record: the first buffer is in a magazine.
+/// sheet[39..43].copy_from_slice(&0x2060_u32.to_be_bytes());
+/// let mut rows = [0; 6];
+/// let found = survey(profile, &sheet, &heap, &records, &[0x1000], &[], &mut rows)?;
+/// let verdicts: Vec<Verdict> = found.findings.map(|finding| finding.verdict).collect();
+/// assert_eq!(verdicts, [Verdict::Cached, Verdict::Free]);
+/// let ending = Ending::End;
+/// assert_eq!(found.chain, Chain { met: 1, ending });
+/// # Ok::<(), Refusal>(())
+/// ```
 pub fn survey<'a>(
     profile: Profile,
     sheet: &[u8],
     heap: &[u8],
     records: &[u8],
+    magazines: &[u32],
     log: &[u8],
     rows: &'a mut [u32],
 ) -> Result<Survey<'a>, Refusal> {
     let mut chain = [0; 3];
-    let count = survey_answer(profile, sheet, heap, records, log, rows, &mut chain).value()?;
+    let answer = survey_answer(
+        profile, sheet, heap, records, magazines, log, rows, &mut chain,
+    );
+    let count = answer.value()?;
     Ok(Survey {
         findings: Findings::new(rows, count),
         chain: Chain::new(chain),
@@ -35,6 +59,7 @@ pub fn survey_answer(
     sheet: &[u8],
     heap: &[u8],
     records: &[u8],
+    magazines: &[u32],
     log: &[u8],
     rows: &mut [u32],
     chain: &mut [u32],
@@ -50,6 +75,8 @@ pub fn survey_answer(
             heap.len(),
             records.as_ptr(),
             records.len(),
+            magazines.as_ptr(),
+            magazines.len(),
             log.as_ptr(),
             log.len(),
             rows.as_mut_ptr(),

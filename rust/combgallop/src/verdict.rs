@@ -6,12 +6,14 @@ use crate::{BadCode, Fault};
 
 /// The verdicts in the order of their numbers; a bad size code has one of three. A size is
 /// that which the client asked for, without a header; an offset is that of the first byte
-/// that differs, from the buffer's start. Only userland images have a header to be wrong.
+/// that differs, from the buffer's start. A free buffer is on the chain; a cached one is free
+/// too, but off the chain and in a magazine. Only userland images have a header to be wrong.
 #[derive(Clone, Copy, PartialEq, Eq, Debug)]
 pub enum Verdict {
     Free,
     Whole,
     Allocated(u32),
+    Cached,
     NotOneRecord,
     BadTag,
     FreedTwice,
@@ -32,6 +34,7 @@ impl Verdict {
             (0, 0) => Verdict::Free,
             (1, 0) => Verdict::Whole,
             (2, size) => Verdict::Allocated(size),
+            (3, 0) => Verdict::Cached,
             (20, 0) => Verdict::NotOneRecord,
             (21, 0) => Verdict::BadTag,
             (22, 0) => Verdict::FreedTwice,
@@ -53,6 +56,7 @@ impl Verdict {
             Verdict::Free => 0,
             Verdict::Whole => 1,
             Verdict::Allocated(_) => 2,
+            Verdict::Cached => 3,
             Verdict::NotOneRecord => 20,
             Verdict::BadTag => 21,
             Verdict::FreedTwice => 22,
@@ -86,6 +90,7 @@ impl Display for Verdict {
             Verdict::Free => write!(out, "free"),
             Verdict::Whole => write!(out, "allocated whole"),
             Verdict::Allocated(size) => write!(out, "allocated, size {size}"),
+            Verdict::Cached => write!(out, "free in a magazine"),
             Verdict::BadFill(offset) | Verdict::BadRedzone(offset) | Verdict::Overrun(offset) => {
                 write!(out, ", first at offset {offset}")
             }
@@ -103,10 +108,11 @@ mod tests {
 
     /// The document's verdicts: number, size or offset, and whether it is a fault,
     /// which is "a verdict of 20 or more".
-    const TABLE: [(u32, u32, Verdict, bool); 15] = [
+    const TABLE: [(u32, u32, Verdict, bool); 16] = [
         (0, 0, Verdict::Free, false),
         (1, 0, Verdict::Whole, false),
         (2, 20, Verdict::Allocated(20), false),
+        (3, 0, Verdict::Cached, false),
         (20, 0, Verdict::NotOneRecord, true),
         (21, 0, Verdict::BadTag, true),
         (22, 0, Verdict::FreedTwice, true),
@@ -160,13 +166,15 @@ mod tests {
         assert_eq!(Verdict::Free.to_string(), "free");
         assert_eq!(Verdict::Whole.to_string(), "allocated whole");
         assert_eq!(Verdict::Allocated(20).to_string(), "allocated, size 20");
+        assert_eq!(Verdict::Cached.to_string(), "free in a magazine");
         assert_eq!(
             Verdict::BadFill(9).to_string(),
             "fault 25: the buffer was written to after it was freed, first at offset 9"
         );
         assert_eq!(
             Verdict::OnChain.to_string(),
-            "fault 24: the buffer is tagged allocated but on the chain of free buffers"
+            "fault 24: the buffer is tagged allocated but on the chain of free buffers or in a \
+             magazine"
         );
         assert_eq!(
             Verdict::BadSizeCode(BadCode::Zero).to_string(),

@@ -32,6 +32,7 @@ fn from_c(parameter: &str) -> String {
     let rust_type = match c_type.trim() {
         "const uint8_t *" => "*const u8",
         "uint8_t *" => "*mut u8",
+        "const uint32_t *" => "*const u32",
         "uint32_t *" => "*mut u32",
         "size_t" => "usize",
         "uint32_t" => "u32",

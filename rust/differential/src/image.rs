@@ -1,4 +1,5 @@
-//! An image's areas and log, and where things stand in them.
+//! An image's areas and log, the magazine words it is read with, and where things stand in
+//! them.
 
 use std::ops::Range;
 
@@ -104,11 +105,13 @@ pub struct Image {
     pub heap: Vec<u8>,
     pub records: Vec<u8>,
     pub log: Vec<u8>,
+    /// The list that it is read with: numbers, which have no order and are no bytes of it.
+    pub magazines: Vec<u32>,
 }
 
 impl Image {
-    /// An image as the reference lays it out, with an empty log. The short form is the
-    /// start of the long one: its words stand high byte first.
+    /// An image as the reference lays it out, with an empty log and an empty list. The short
+    /// form is the start of the long one: its words stand high byte first.
     pub fn laid_out(form: Form, shape: Shape, times: [u32; 5]) -> Image {
         let mut sheet = vec![0; SHEET_LENGTH];
         let mut heap = vec![0; shape.heap_length()];
@@ -135,6 +138,7 @@ impl Image {
             heap,
             records,
             log: Vec::new(),
+            magazines: Vec::new(),
         }
     }
 

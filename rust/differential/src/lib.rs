@@ -5,10 +5,12 @@
 //! All of it follows from a seed, so that each image can be made again.
 
 mod case;
+pub mod chain;
 mod form;
 pub mod hurt;
 mod image;
 pub mod latest;
+pub mod magazines;
 pub mod neighbours;
 mod profile;
 pub mod samples;

@@ -3,6 +3,7 @@
 use reference::{Grant, Profile};
 
 use crate::image::{full_r0, REDZONE};
+use crate::magazines::cache;
 use crate::samples::dump;
 use crate::{Form, Image};
 
@@ -24,10 +25,30 @@ pub fn each_neighbour(forms: &[Form], mut see: impl FnMut(&Image)) {
 fn each_changed_byte(form: Form, grant: Grant, see: &mut impl FnMut(&Image)) {
     let mut image = dump(form);
     image.put_grant(1, grant);
+    each_byte(&mut image, see);
+}
+
+/// In each of these forms, the dump with its last buffer in a magazine, so that the chain has
+/// one record: each byte changed to each other value, and each bit of the magazine word.
+pub fn each_cached_neighbour(forms: &[Form], mut see: impl FnMut(&Image)) {
+    for &form in forms {
+        let mut image = dump(form);
+        cache(&mut image, &[0]);
+        each_byte(&mut image, &mut see);
+        for bit in 0..32 {
+            image.magazines[0] ^= 1 << bit;
+            see(&image);
+            image.magazines[0] ^= 1 << bit;
+        }
+    }
+}
+
+/// Each byte of sheet, heap and records, changed to each other value.
+fn each_byte(image: &mut Image, see: &mut impl FnMut(&Image)) {
     let lengths = [image.sheet.len(), image.heap.len(), image.records.len()];
     for (area, length) in lengths.into_iter().enumerate() {
         for at in 0..length {
-            each_value(&mut image, area, at, see);
+            each_value(image, area, at, see);
         }
     }
 }

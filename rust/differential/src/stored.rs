@@ -1,7 +1,7 @@
 //! The images that `crates/stored_images` reports on: the dump, and what one change makes
 //! of it, under each profile and in each order. Each image stands behind one byte, 0 for the
 //! kernel profile and 1 for userland: a sheet of the long form, three chunks of 40 bytes
-//! and three records of 96, or of 100. There is no log.
+//! and three records of 96, or of 100. There is no log, and the magazine list is empty.
 
 use reference::{report_text, Profile};
 
@@ -154,9 +154,10 @@ fn answer(image: &Image) -> Vec<u8> {
         heap,
         records,
         log,
+        magazines,
         ..
     } = image;
-    let text = report_text(image.profile(), sheet, heap, records, log);
+    let text = report_text(image.profile(), sheet, heap, records, magazines, log);
     let text = text.unwrap_or_else(|refusal| format!("refused {}\n", refusal.number));
     text.into_bytes()
 }

@@ -27,6 +27,9 @@ const THIRD: u32 = HEAP_BASE + 80;
 /// The guard byte of the first buffer, whose coded size is 20.
 const GUARD: usize = 20;
 
+/// Where the chain's head stands in the sheet.
+const HEAD: usize = 39;
+
 /// Where R1 of the first buffer stands, which holds the code of that size.
 const CODE: usize = 28;
 
@@ -108,6 +111,7 @@ fn trace_in(profile: Profile, order: Order) -> String {
     trace.store_and_show();
     trace.refuse_nobody();
     trace.fill_and_free();
+    trace.list();
     trace.ask();
     trace.read();
     trace.hurt();
@@ -153,12 +157,31 @@ impl Trace {
         self.free(THIRD, Grant::Sized(24), 500, 7);
         self.free(SECOND, Grant::Whole, 500, 8);
         self.free(SECOND, Grant::Whole, 600, 8);
-        self.show(SECOND);
-        self.show(THIRD + 4);
+    }
+
+    /// The second buffer is free. It is listed while it is on the chain, and while the
+    /// chain is empty: then an address between two buffers is listed as well, and more
+    /// words than there are buffers.
+    fn list(&mut self) {
+        let lists: [&[u32]; 3] = [&[SECOND], &[SECOND, SECOND], &[SECOND, FIRST]];
+        for list in lists {
+            self.inspect_listed(list);
+        }
+        let head = word(Order::HighFirst, &self.sheet, HEAD);
+        put_word(Order::HighFirst, &mut self.sheet, HEAD, 0);
         self.inspect();
+        for list in lists {
+            self.inspect_listed(list);
+        }
+        self.inspect_listed(&[SECOND, SECOND + 4]);
+        self.inspect_listed(&[SECOND, FIRST, THIRD, SECOND]);
+        put_word(Order::HighFirst, &mut self.sheet, HEAD, head);
     }
 
     fn ask(&mut self) {
+        self.show(SECOND);
+        self.show(THIRD + 4);
+        self.inspect();
         self.latest(0, 600);
         self.latest(1, 600);
         self.latest(0, 120);
@@ -281,9 +304,13 @@ impl Trace {
     }
 
     fn inspect(&mut self) {
+        self.inspect_listed(&[]);
+    }
+
+    fn inspect_listed(&mut self, magazines: &[u32]) {
         let mut rows = [BLANK; 4];
         let (sheet, heap, records) = (&self.sheet, &self.heap, &self.records);
-        let answer = inspect(self.profile, sheet, heap, records, &mut rows);
+        let answer = inspect(self.profile, sheet, heap, records, magazines, &mut rows);
         self.line("inspect", &told(answer, |count| format!(" {count}")));
         for Finding { index, verdict } in rows {
             let (number, value) = (verdict.number(), verdict.value());

@@ -1,7 +1,7 @@
 /*
  * Reads the dump's image, behind one byte with the length of its sheet, and writes what each
- * declared function answers and fills; the calls, in both orders, and under the userland
- * profile too.
+ * declared function answers and fills, with magazine lists where it takes one; the calls, in
+ * both orders, and under the userland profile too.
  */
 #include <inttypes.h>
 #include <stdio.h>
@@ -70,6 +70,9 @@ static void area_lengths(bool userland, size_t length, size_t room)
     print_numbers("lengths", lengths, 3);
 }
 
+/* For a list of no words. */
+static const uint32_t no_words[1] = {0};
+
 static void survey(size_t log_length, size_t rows_room, size_t chain_room)
 {
     const uint8_t log[16] = {0};
@@ -77,7 +80,8 @@ static void survey(size_t log_length, size_t rows_room, size_t chain_room)
     uint32_t chain[4] = {7, 7, 7, 7};
 
     print_answer("survey", cg_survey(false, image, sheet_length, heap, HEAP, records, RECORDS,
-                                     log, log_length, rows, rows_room, chain, chain_room));
+                                     no_words, 0, log, log_length, rows, rows_room, chain,
+                                     chain_room));
     print_numbers("rows", rows, ROWS);
     print_numbers("chain", chain, 4);
 }
@@ -118,21 +122,74 @@ static void judge_dump(void)
     uint32_t at;
 
     print_answer("inspect", cg_inspect(false, image, sheet_length, heap, HEAP, records, RECORDS,
-                                       rows, ROWS));
+                                       no_words, 0, rows, ROWS));
     print_numbers("rows", rows, ROWS);
     print_answer("inspect", cg_inspect(false, image, sheet_length, heap, HEAP, records, RECORDS,
-                                       rows, 8));
+                                       no_words, 0, rows, 8));
     print_answer("inspect", cg_inspect(true, image, sheet_length, heap, HEAP, records, RECORDS,
-                                       rows, ROWS));
+                                       no_words, 0, rows, ROWS));
     put_word(row, 0x70ae3200);
     for (at = 0; at < 4; at++)
         print_answer("latest", cg_latest(false, image, sheet_length, heap, HEAP, records,
                                          RECORDS, row, sizeof row, at, 5));
     print_answer("report", cg_report(false, image, sheet_length, heap, HEAP, records, RECORDS,
-                                     row, 0, output, 63));
+                                     no_words, 0, row, 0, output, 63));
     print_answer("report", cg_report(false, image, sheet_length, heap, HEAP, records, RECORDS,
-                                     row, 0, output, OUTPUT));
+                                     no_words, 0, row, 0, output, OUTPUT));
     fputs((const char *)output, stdout);
+}
+
+/* What the three readers make of the dump with so many words of a list. */
+static void read_with(const uint32_t *list, size_t length, size_t log_length, size_t rows_room)
+{
+    const uint8_t log[16] = {0};
+    uint32_t rows[ROWS] = {7, 7, 7, 7, 7, 7, 7, 7, 7, 7};
+    uint32_t same_rows[ROWS] = {7, 7, 7, 7, 7, 7, 7, 7, 7, 7};
+    uint32_t chain[4] = {7, 7, 7, 7};
+    uint8_t output[2 * OUTPUT];
+    uint64_t answer;
+
+    print_answer("inspect", cg_inspect(false, image, sheet_length, heap, HEAP, records, RECORDS,
+                                       list, length, rows, rows_room));
+    print_numbers("rows", rows, ROWS);
+    print_answer("survey", cg_survey(false, image, sheet_length, heap, HEAP, records, RECORDS,
+                                     list, length, log, log_length, same_rows, rows_room,
+                                     chain, 4));
+    print_numbers("rows", same_rows, ROWS);
+    print_numbers("chain", chain, 4);
+    answer = cg_report(false, image, sheet_length, heap, HEAP, records, RECORDS, list, length,
+                       log, log_length, output, rows_room < 9 ? 8 : sizeof output);
+    print_answer("report", answer);
+    fwrite(output, 1, cg_value(answer), stdout);
+}
+
+/*
+ * The dump's buffer 0 is taken off the chain, which then starts at record 0, and is put into a
+ * magazine. A list of 2^32 + 1 words has a lawful length in its low half; it is not as
+ * long as said, since no word of it may be read.
+ */
+static void judge_magazines(void)
+{
+    enum { HEAD = 39 }; /* in the sheet, high byte first */
+    const uint8_t first_record[4] = {0x70, 0xae, 0x31, 0xa0};
+    uint8_t stood[4];
+    uint32_t list[4] = {0x70a9add8, 0x70a9ae28, 0x70a9add8, 0x70a9ae00};
+
+    memcpy(stood, image + HEAD, 4);
+    memcpy(image + HEAD, first_record, 4);
+    read_with(list, 0, 0, ROWS);
+    read_with(list, 1, 0, ROWS);
+    read_with(list, 2, 0, ROWS);
+    read_with(list, 3, 0, ROWS);
+    read_with(list + 3, 1, 0, ROWS);
+    read_with(list, 4, 0, ROWS - 2);
+    list[1]++;
+    read_with(list, 4, 0, ROWS);
+    read_with(list, 2, 0, ROWS - 2);
+    read_with(list, 2, 15, ROWS);
+    read_with(list, 1, 0, ROWS - 2);
+    read_with(list, (size_t)1 + UINT32_MAX + 1, 0, ROWS);
+    memcpy(image + HEAD, stood, 4);
 }
 
 /* The dump's buffer 1: where it and its R1 stand in the heap, and its address and size. */
@@ -160,7 +217,7 @@ static void judge_code(uint32_t code)
 
     put_word(heap + R1, code);
     print_answer("inspect", cg_inspect(false, image, sheet_length, heap, HEAP, records, RECORDS,
-                                       rows, ROWS));
+                                       no_words, 0, rows, ROWS));
     print_numbers("rows", rows, ROWS);
     printf("%s\n", name_of(rows[4]));
     print_answer("show", cg_show(false, image, sheet_length, heap, HEAP, records, RECORDS,
@@ -340,16 +397,17 @@ static void userland_read(void)
     uint64_t answer;
 
     print_answer("inspect", cg_inspect(true, fresh_sheet, SHEET, userland_heap, HEAP,
-                                       userland_records, USERLAND_RECORDS, rows, ROWS));
+                                       userland_records, USERLAND_RECORDS, no_words, 0,
+                                       rows, ROWS));
     print_numbers("rows", rows, ROWS);
     print_answer("survey", cg_survey(true, fresh_sheet, SHEET, userland_heap, HEAP,
-                                     userland_records, USERLAND_RECORDS, log, 0, rows, ROWS,
-                                     chain, 4));
+                                     userland_records, USERLAND_RECORDS, no_words, 0, log, 0,
+                                     rows, ROWS, chain, 4));
     print_numbers("chain", chain, 4);
     print_answer("latest", cg_latest(true, fresh_sheet, SHEET, userland_heap, HEAP,
                                      userland_records, USERLAND_RECORDS, log, 0, 2, 0x40));
     answer = cg_report(true, fresh_sheet, SHEET, userland_heap, HEAP, userland_records,
-                       USERLAND_RECORDS, log, 0, output, sizeof output);
+                       USERLAND_RECORDS, no_words, 0, log, 0, output, sizeof output);
     print_answer("report", answer);
     fwrite(output, 1, cg_value(answer), stdout);
 }
@@ -388,6 +446,7 @@ int main(void)
         return 1;
     read_dump();
     judge_dump();
+    judge_magazines();
     judge_codes();
     make_calls(false);
     make_calls(true);

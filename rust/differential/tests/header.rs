@@ -50,6 +50,73 @@ chain 2 end
 faults 0
 ";
 
+/// The dump with a magazine list, after its buffer 0 was taken off the chain, so that record 0
+/// of buffer 2 is all that it meets. No list: 23. Buffer 0 listed: 3. Buffer 2 as well, which
+/// is on the chain: 22. Buffer 0 twice: 22. Buffer 1 alone, which is allocated: 24, and 23 for
+/// buffer 0. Four words for three buffers, with too little room: 3. One of the four no buffer's
+/// start: still 3; two words, one of them no start, with too little room: 4; with a log of 15
+/// bytes: 4 by inspect, which has no log, and 3 by the others. Sound with too little room: 11.
+/// 2^32 + 1 words: 3.
+const MAGAZINES: &str = "\
+inspect 0 0 3\nrows 0 23 0 1 2 20 2 0 0 7
+survey 0 0 3\nrows 0 23 0 1 2 20 2 0 0 7\nchain 1 0 0 7
+report 0 0 68
+heap report 1
+0 fault 23
+1 allocated 20
+2 free
+chain 1 end
+faults 1
+inspect 0 0 3\nrows 0 3 0 1 2 20 2 0 0 7
+survey 0 0 3\nrows 0 3 0 1 2 20 2 0 0 7\nchain 1 0 0 7
+report 0 0 66
+heap report 1
+0 cached
+1 allocated 20
+2 free
+chain 1 end
+faults 0
+inspect 0 0 3\nrows 0 3 0 1 2 20 2 22 0 7
+survey 0 0 3\nrows 0 3 0 1 2 20 2 22 0 7\nchain 1 0 0 7
+report 0 0 70
+heap report 1
+0 cached
+1 allocated 20
+2 fault 22
+chain 1 end
+faults 1
+inspect 0 0 3\nrows 0 22 0 1 2 20 2 22 0 7
+survey 0 0 3\nrows 0 22 0 1 2 20 2 22 0 7\nchain 1 0 0 7
+report 0 0 72
+heap report 1
+0 fault 22
+1 allocated 20
+2 fault 22
+chain 1 end
+faults 2
+inspect 0 0 3\nrows 0 23 0 1 24 0 2 0 0 7
+survey 0 0 3\nrows 0 23 0 1 24 0 2 0 0 7\nchain 1 0 0 7
+report 0 0 64
+heap report 1
+0 fault 23
+1 fault 24
+2 free
+chain 1 end
+faults 2
+inspect 3 0 0\nrows 7 7 7 7 7 7 7 7 7 7
+survey 3 0 0\nrows 7 7 7 7 7 7 7 7 7 7\nchain 7 7 7 7\nreport 3 0 0
+inspect 3 0 0\nrows 7 7 7 7 7 7 7 7 7 7
+survey 3 0 0\nrows 7 7 7 7 7 7 7 7 7 7\nchain 7 7 7 7\nreport 3 0 0
+inspect 4 0 0\nrows 7 7 7 7 7 7 7 7 7 7
+survey 4 0 0\nrows 7 7 7 7 7 7 7 7 7 7\nchain 7 7 7 7\nreport 4 0 0
+inspect 4 0 0\nrows 7 7 7 7 7 7 7 7 7 7
+survey 3 0 0\nrows 7 7 7 7 7 7 7 7 7 7\nchain 7 7 7 7\nreport 3 0 0
+inspect 11 0 0\nrows 7 7 7 7 7 7 7 7 7 7
+survey 11 0 0\nrows 7 7 7 7 7 7 7 7 7 7\nchain 7 7 7 7\nreport 11 0 0
+inspect 3 0 0\nrows 7 7 7 7 7 7 7 7 7 7
+survey 3 0 0\nrows 7 7 7 7 7 7 7 7 7 7\nchain 7 7 7 7\nreport 3 0 0
+";
+
 /// The dump's buffer 1 by its size code: that of its size 20 and one more, whose remainder is
 /// wrong; that of size 0; that of 25, one above the buffer size; and its own, so that it is
 /// shown, stored to and freed.
@@ -236,9 +303,10 @@ fn compiled() -> PathBuf {
 }
 
 /// All that it writes.
-const EXPECTED: [&str; 9] = [
+const EXPECTED: [&str; 10] = [
     DUMP,
     FOUND,
+    MAGAZINES,
     CODES,
     HIGH,
     LOW,

@@ -11,6 +11,7 @@ mod chain;
 mod chunk;
 mod inspect;
 mod latest;
+mod magazines;
 mod profile;
 mod program;
 mod record;

@@ -8,6 +8,9 @@ use crate::sheet::area_lengths;
 /// "The program keeps the old one."
 const PROFILE: Profile = Profile::Kernel;
 
+/// "The program's input stays, with an empty list."
+const MAGAZINES: &[u32] = &[];
+
 /// What the program writes to standard output for a given standard input: the
 /// report, or "`refused N` and a line feed".
 pub fn program(input: &[u8]) -> Vec<u8> {
@@ -25,7 +28,7 @@ fn answer(input: &[u8]) -> Result<String, Refusal> {
     let (heap_length, record_length) = area_lengths(PROFILE, sheet)?;
     let (heap, rest) = split_area(rest, heap_length);
     let (records, log) = split_area(rest, record_length);
-    report_text(PROFILE, sheet, heap, records, log)
+    report_text(PROFILE, sheet, heap, records, MAGAZINES, log)
 }
 
 /// The sheet by its length byte, and what follows it. "Input that ends early makes

@@ -12,15 +12,18 @@ pub enum Verdict {
     Whole,
     /// 2: allocated, with the size: "verdict 2 and free name the request".
     Allocated(u32),
+    /// 3: cached, free in a magazine and off the chain.
+    Cached,
     /// 20: not exactly one record names it.
     NotNamedOnce,
     /// 21: T0 isn't its own record's address, or the xor is neither pattern.
     BadTag,
-    /// 22: the chain is "again" at its record.
+    /// 22: the chain is "again" at its record, or the buffer is "listed twice or more, or
+    /// listed and on the chain".
     FreedTwice,
-    /// 23: free pattern, record not met by the chain.
+    /// 23: free pattern, record not met by the chain, and not listed: "off both".
     FreeNotMet,
-    /// 24: allocated pattern, record met by the chain.
+    /// 24: allocated pattern, record met by the chain, or listed.
     AllocatedMet,
     /// 25: the fill of a free buffer differs, with the offset.
     FillDiffers(u32),
@@ -41,6 +44,7 @@ impl Verdict {
             Verdict::Free => 0,
             Verdict::Whole => 1,
             Verdict::Allocated(_) => 2,
+            Verdict::Cached => 3,
             Verdict::NotNamedOnce => 20,
             Verdict::BadTag => 21,
             Verdict::FreedTwice => 22,

@@ -29,6 +29,13 @@ enum order {
 /* For what is to be compiled once for each order. */
 #define FOR_EACH_ORDER static inline __attribute__((always_inline))
 
+/*
+ * For what is to be compiled apart from its caller. In one piece with the sheet's tests gcc
+ * knows the range of the count, and clears arrays by `rep stos`, which takes longer than a
+ * call of memset where the count is small.
+ */
+#define APART static __attribute__((noinline))
+
 enum {
     SHORT_SHEET_LENGTH = 48, /* without tag 9: the high byte stands first */
     SHEET_LENGTH = 52,
@@ -86,6 +93,7 @@ enum {
     FREE = 0,
     WHOLE = 1,
     ALLOCATED = 2,
+    CACHED = 3,
     NOT_ONE_RECORD = 20,
     BAD_TAG = 21,
     FREED_TWICE = 22,

@@ -9,12 +9,13 @@
 #include <stdint.h>
 
 /*
- * Judges every buffer, as cg_inspect does: the same answer, the same rows. No pointer
- * is null, and `rows` overlaps no other area.
+ * Judges every buffer, as cg_inspect does, with a list of magazine words: the same answer,
+ * the same rows. No pointer is null, and `rows` overlaps no other area.
  */
 uint64_t plain_inspect(const uint8_t *sheet, size_t sheet_length,
                        const uint8_t *heap, size_t heap_length,
                        const uint8_t *records, size_t records_length,
+                       const uint32_t *magazines, size_t magazines_length,
                        uint32_t *rows, size_t rows_length);
 
 #endif

@@ -9,6 +9,8 @@ extern "C" {
         heap_length: usize,
         records: *const u8,
         records_length: usize,
+        magazines: *const u32,
+        magazines_length: usize,
         rows: *mut u32,
         rows_length: usize,
     ) -> u64;

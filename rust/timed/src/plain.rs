@@ -3,9 +3,16 @@
 
 use crate::ffi;
 
-/// Judges every buffer, and fills the rows as the library's inspect does.
+/// Judges every buffer, with a list of magazine words, and fills the rows as the library's
+/// inspect does.
 #[inline]
-pub fn plain_inspect(sheet: &[u8], heap: &[u8], records: &[u8], rows: &mut [u32]) -> u64 {
+pub fn plain_inspect(
+    sheet: &[u8],
+    heap: &[u8],
+    records: &[u8],
+    magazines: &[u32],
+    rows: &mut [u32],
+) -> u64 {
     // SAFETY: each pointer comes with the length of its own slice, and nothing else
     // can reach `rows` before the call returns.
     unsafe {
@@ -16,6 +23,8 @@ pub fn plain_inspect(sheet: &[u8], heap: &[u8], records: &[u8], rows: &mut [u32]
             heap.len(),
             records.as_ptr(),
             records.len(),
+            magazines.as_ptr(),
+            magazines.len(),
             rows.as_mut_ptr(),
             rows.len(),
         )

@@ -1,18 +1,8 @@
 //! Chains that do not meet exactly the free records.
 
-use reference::chain;
-
 use super::no_record;
-use crate::image::NEXT;
+use crate::chain::{met, next, put_next};
 use crate::{Image, Sequence};
-
-/// The records met by the chain as it is, none for an image that is refused.
-fn met(image: &Image) -> Vec<usize> {
-    match chain(image.profile(), &image.sheet, &image.heap, &image.records) {
-        Ok(chain) => chain.met,
-        Err(_) => Vec::new(),
-    }
-}
 
 /// Some record met by the chain, or any where none is.
 fn some_met(image: &Image, sequence: &mut Sequence) -> usize {
@@ -21,14 +11,6 @@ fn some_met(image: &Image, sequence: &mut Sequence) -> usize {
         return sequence.below(image.shape.count);
     }
     sequence.pick(&met)
-}
-
-fn put_next(image: &mut Image, record: usize, next: u32) {
-    image.put_record_word(image.record(record) + NEXT, next);
-}
-
-fn next(image: &Image, record: usize) -> u32 {
-    image.record_word(image.record(record) + NEXT)
 }
 
 pub fn cut(image: &mut Image, sequence: &mut Sequence) {

@@ -121,7 +121,7 @@ fn no_record(image: &Image, sequence: &mut Sequence) -> u32 {
 
 /// An address where no buffer starts: near the heap, in a chunk past its start, a
 /// record's, or any word.
-fn no_buffer(shape: Shape, sequence: &mut Sequence) -> u32 {
+pub(crate) fn no_buffer(shape: Shape, sequence: &mut Sequence) -> u32 {
     let step = shape.chunk_size() as u32;
     let any = sequence.word();
     let inside = sequence.between(1, shape.chunk_size() - 1) as u32;

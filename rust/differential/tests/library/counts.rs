@@ -20,6 +20,13 @@ pub enum Met {
     /// What the latest transaction was chosen from, or is.
     Latest(&'static str),
     Hurt(&'static str),
+    /// The kind of a magazine list.
+    List(&'static str),
+    /// A verdict on a buffer that is listed so often: once, or 2 for twice or more.
+    Listed(usize, u32),
+    /// How a buffer with a right tag stands: its pattern, whether the chain meets its record,
+    /// and how often it is listed, 2 for twice or more.
+    Stands(&'static str, bool, usize),
     /// A call that was accepted, by its name.
     Accepted(&'static str),
     /// A call that was refused, with the refusal's number and detail.
@@ -32,10 +39,11 @@ pub enum Met {
 }
 
 /// Every verdict there is under both profiles.
-pub const VERDICTS: [Met; 14] = [
+pub const VERDICTS: [Met; 15] = [
     Met::Verdict(0),
     Met::Verdict(1),
     Met::Verdict(2),
+    Met::Verdict(3),
     Met::Verdict(20),
     Met::Verdict(21),
     Met::Verdict(22),
@@ -65,10 +73,11 @@ pub const EXTREMES: [Met; 5] = [
 pub const ENDINGS: [Met; 3] = [Met::Chain("end"), Met::Chain("broken"), Met::Chain("again")];
 
 /// The refusals that inspect, survey and report can give, by the rules.
-pub const READ_REFUSALS: [Met; 4] = [
+pub const READ_REFUSALS: [Met; 5] = [
     Met::Refusal(1, 0),
     Met::Refusal(2, 0),
     Met::Refusal(3, 0),
+    Met::Refusal(4, 0),
     Met::Refusal(11, 0),
 ];
 
@@ -92,6 +101,14 @@ impl Display for Met {
             Met::Extreme(what, number) => write!(out, "{what} {number}"),
             Met::Latest(what) => write!(out, "{what}"),
             Met::Hurt(name) => write!(out, "hurt: {name}"),
+            Met::List(kind) => write!(out, "{kind}"),
+            Met::Listed(times, number) => write!(out, "listed {times} times, verdict {number}"),
+            Met::Stands(pattern, true, times) => {
+                write!(out, "{pattern} pattern on the chain, listed {times} times")
+            }
+            Met::Stands(pattern, false, times) => {
+                write!(out, "{pattern} pattern off the chain, listed {times} times")
+            }
             Met::Accepted(call) => write!(out, "{call} accepted"),
             Met::Refused(call, number, 0) => write!(out, "{call} refused {number}"),
             Met::Refused(call, number, detail) => {

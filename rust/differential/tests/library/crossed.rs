@@ -15,9 +15,10 @@ const SEED: u64 = 0x58b4_09ec;
 
 /// What is met under both profiles. Where there is one buffer its record stands at the same
 /// place; of more, most are found to be no pairs.
-const WANTED: [Met; 9] = [
+const WANTED: [Met; 11] = [
     Met::Verdict(0),
     Met::Verdict(1),
+    Met::Verdict(3),
     Met::Verdict(20),
     Met::Verdict(21),
     Met::Verdict(25),
@@ -25,12 +26,13 @@ const WANTED: [Met; 9] = [
     Met::Refusal(1, 0),
     Met::Refusal(2, 0),
     Met::Refusal(3, 0),
+    Met::Refusal(4, 0),
 ];
 
 /// The image of a case, to be read under the other profile; now and then with its own
 /// records, which have a wrong length there.
 fn crossed(profile: Profile, number: u64) -> (Case, Sequence) {
-    let (mut case, mut sequence) = Case::new(profile, SEED, number);
+    let (mut case, mut sequence) = Case::listed(profile, SEED, number);
     let image = &mut case.image;
     image.form = image.form.under(other_profile(profile));
     if !sequence.once_in(8) {

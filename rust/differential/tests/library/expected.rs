@@ -78,6 +78,7 @@ pub fn expected_finding(finding: &reference::Finding) -> Finding {
         Second::Free => Verdict::Free,
         Second::Whole => Verdict::Whole,
         Second::Allocated(size) => Verdict::Allocated(size),
+        Second::Cached => Verdict::Cached,
         Second::NotNamedOnce => Verdict::NotOneRecord,
         Second::BadTag => Verdict::BadTag,
         Second::FreedTwice => Verdict::FreedTwice,

@@ -1,11 +1,12 @@
-//! Inspect, on hurt images, on every neighbour of the dump, and with every byte of a free
-//! chunk hurt.
+//! Inspect, on hurt images with magazine lists, on every neighbour of the dump, and with every
+//! byte of a free chunk hurt.
 
 use std::fmt::Display;
 
 use combgallop::{inspect, inspect_answer};
 use differential::hurt::HURTS;
-use differential::neighbours::{each_neighbour, each_small_size_code};
+use differential::magazines::{cache, cache_some};
+use differential::neighbours::{each_cached_neighbour, each_neighbour, each_small_size_code};
 use differential::{sound_image, Case, Image, Sequence, Shape, FORMS, PROFILES};
 use reference::{chain, Finding, Refusal, Verdict};
 
@@ -14,6 +15,7 @@ use crate::expected::{
     expected_answer, expected_finding, expected_profile, expected_refusal, put_rows,
 };
 use crate::lent::{numbered, Guarded, Lent};
+use crate::listed;
 
 const CASES: u64 = 60_000;
 const SEED: u64 = 0x1d5b_ec71;
@@ -26,9 +28,8 @@ pub fn compare(
     sequence: &mut Sequence,
     story: &dyn Display,
 ) -> Result<Vec<Finding>, Refusal> {
-    let (sheet, heap, records) = (&image.sheet, &image.heap, &image.records);
     let mut findings = vec![Finding::default(); room / 3];
-    let expected = reference::inspect(image.profile(), sheet, heap, records, &mut findings);
+    let expected = by_reference(image, &mut findings);
     findings.truncate(expected.unwrap_or(0));
     let pattern = numbered(0xa5a5_0000, room);
     let mut expected_rows = pattern.clone();
@@ -36,16 +37,16 @@ pub fn compare(
 
     let lent = Lent::new(image, sequence);
     let (sheet, heap, records) = (lent.sheet.part(), lent.heap.part(), lent.records.part());
-    let profile = expected_profile(image.profile());
+    let (profile, list) = (expected_profile(image.profile()), lent.magazines.part());
     let mut rows = Guarded::new(&pattern, sequence);
-    let answer = inspect_answer(profile, sheet, heap, records, rows.part_mut());
+    let answer = inspect_answer(profile, sheet, heap, records, list, rows.part_mut());
     let count = expected.map(|count| count as u32);
     assert_eq!(answer, expected_answer(count), "room {room}, {story}");
     assert!(rows.holds(&expected_rows), "rows, room {room}, {story}");
     lent.assert_holds(image, story);
 
     let mut rows = Guarded::new(&pattern, sequence);
-    let found = inspect(profile, sheet, heap, records, rows.part_mut());
+    let found = inspect(profile, sheet, heap, records, list, rows.part_mut());
     let found = found.map(|found| found.collect());
     let expected_found = expected.map(|_| findings.iter().map(expected_finding).collect());
     let expected_found: Result<Vec<_>, _> = expected_found.map_err(expected_refusal);
@@ -53,6 +54,19 @@ pub fn compare(
     assert!(rows.holds(&expected_rows), "rows, room {room}, {story}");
     lent.assert_holds(image, story);
     expected.map(|_| findings)
+}
+
+/// Fills findings as far as there is room, with the image's magazine list.
+pub fn by_reference(image: &Image, findings: &mut [Finding]) -> Result<usize, Refusal> {
+    let (sheet, heap, records) = (&image.sheet, &image.heap, &image.records);
+    reference::inspect(
+        image.profile(),
+        sheet,
+        heap,
+        records,
+        &image.magazines,
+        findings,
+    )
 }
 
 pub fn note(counts: &mut Counts, image: &Image, found: Result<Vec<Finding>, Refusal>) {
@@ -75,44 +89,75 @@ fn hurt_images() {
     let mut counts = Counts::default();
     for profile in PROFILES {
         for number in 0..CASES {
-            let (case, mut sequence) = Case::new(profile, SEED, number);
+            let (case, mut sequence) = Case::listed(profile, SEED, number);
             let room = sequence.room(3 * case.image.shape.count);
             let found = compare(&case.image, room, &mut sequence, &case);
+            note_list(&mut counts, &case.image, room, &found);
             note(&mut counts, &case.image, found);
+            counts.note(case.image.form, Met::List(case.list));
             for name in case.hurts {
                 counts.note(case.image.form, Met::Hurt(name));
             }
         }
     }
     let hurts: Vec<Met> = HURTS.iter().map(|&(name, _)| Met::Hurt(name)).collect();
-    let wanted = [&VERDICTS[..], &ENDINGS, &READ_REFUSALS, &EXTREMES, &hurts].concat();
+    let lists = [&listed::wanted()[..], &listed::CAUSES].concat();
+    let wanted = [&VERDICTS[..], &ENDINGS, &READ_REFUSALS, &EXTREMES].concat();
+    let wanted = [wanted, hurts, lists].concat();
     counts.finish_with("inspect, hurt images", SEED, &wanted, &[HEADER_VERDICT]);
+}
+
+/// Notes what the magazine list came to. No log is tested.
+pub fn note_list(
+    counts: &mut Counts,
+    image: &Image,
+    room: usize,
+    found: &Result<Vec<Finding>, Refusal>,
+) {
+    match found {
+        Ok(findings) => {
+            let verdicts = findings.iter().map(|finding| finding.verdict.number());
+            listed::note_buffers(counts, image, verdicts);
+        }
+        Err(refusal) => {
+            let is_short = room < 3 * image.shape.count;
+            listed::note_refusal(counts, image, *refusal, &[], is_short);
+        }
+    }
 }
 
 /// What the images are made from: a hurt would mean little if these had faults.
 #[test]
 fn sound_images_have_no_fault() {
     let mut sequence = Sequence::new(SEED);
-    for number in 0..4_000 {
-        let image = sound_image(PROFILES[number % 2], &mut sequence);
+    let mut counts = Counts::default();
+    for number in 0..8_000 {
+        let mut image = sound_image(PROFILES[number % 2], &mut sequence);
+        if number % 4 >= 2 {
+            cache_some(&mut image, &mut sequence);
+        }
         let room = 3 * image.shape.count;
         let found = compare(&image, room, &mut sequence, &image);
         let findings = found.expect("a sound image is not refused");
         let faults = findings.iter().filter(|row| row.verdict.number() >= 20);
         assert_eq!(faults.count(), 0, "sound image {number}: {image}");
+        note(&mut counts, &image, Ok(findings));
     }
+    counts.finish("inspect, sound images", SEED, &VERDICTS[..4]);
 }
 
 #[test]
 fn neighbours_of_the_dump() {
     let mut sequence = Sequence::new(SEED);
     let mut counts = Counts::default();
-    each_neighbour(&FORMS, |image| {
+    let mut see = |image: &Image| {
         let found = compare(image, 10, &mut sequence, image);
         note(&mut counts, image, found);
-    });
+    };
+    each_neighbour(&FORMS, &mut see);
+    each_cached_neighbour(&FORMS, &mut see);
     let title = "inspect, neighbours of the dump";
-    counts.finish_with(title, SEED, &VERDICTS[..3], &[HEADER_VERDICT]);
+    counts.finish_with(title, SEED, &VERDICTS[..4], &[HEADER_VERDICT]);
 }
 
 #[test]
@@ -142,7 +187,7 @@ const FILL_PLACES: [Met; 5] = [
 ];
 
 /// Each byte of a free chunk before its tag is hurt, by itself and with one of those behind
-/// it: the first that is wrong is named.
+/// it: the first that is wrong is named, on the chain and in a magazine.
 #[test]
 fn every_byte_of_a_free_chunk() {
     let mut sequence = Sequence::new(SEED);
@@ -156,13 +201,18 @@ fn every_byte_of_a_free_chunk() {
             count: 3,
         };
         for form in FORMS {
-            let mut image = Image::laid_out(form, shape, [0; 5]);
+            let mut chained = Image::laid_out(form, shape, [0; 5]);
+            let mut cached = chained.clone();
+            cache(&mut cached, &[1]);
             for offset in 0..size + 8 {
-                compare_hurts(&mut image, offset, &mut sequence, &mut counts);
+                compare_hurts(&mut chained, offset, &mut sequence, &mut counts);
+                compare_hurts(&mut cached, offset, &mut sequence, &mut counts);
             }
         }
     }
-    let wanted = [&FILL_PLACES[..], &[Met::Verdict(25), Met::Verdict(26)]].concat();
+    let verdicts = [25, 26].map(Met::Verdict);
+    let listed = [25, 26].map(|number| Met::Listed(1, number));
+    let wanted = [&FILL_PLACES[..], &verdicts, &listed].concat();
     counts.finish("inspect, every byte of a free chunk", SEED, &wanted);
 }
 
@@ -182,6 +232,8 @@ fn compare_hurts(image: &mut Image, offset: usize, sequence: &mut Sequence, coun
         image.heap[start + at] = sound[start + at] ^ sequence.pick(&[0x01, 0x80, 0xff]);
         let found = compare(image, 9, sequence, image).expect("a lawful image");
         assert_eq!(found[1].verdict, expected, "byte {offset} of {size}");
+        let verdicts = found.iter().map(|finding| finding.verdict.number());
+        listed::note_buffers(counts, image, verdicts);
         note(counts, image, Ok(found));
     }
     image.heap = sound;

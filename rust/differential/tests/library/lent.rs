@@ -54,12 +54,13 @@ pub fn numbered(first: u32, length: usize) -> Vec<u32> {
     (first..).take(length).collect()
 }
 
-/// The areas and the log of an image, as a call is lent them.
+/// The areas and the log of an image and its magazine list, as a call is lent them.
 pub struct Lent {
     pub sheet: Guarded<u8>,
     pub heap: Guarded<u8>,
     pub records: Guarded<u8>,
     pub log: Guarded<u8>,
+    pub magazines: Guarded<u32>,
 }
 
 impl Lent {
@@ -69,6 +70,7 @@ impl Lent {
             heap: Guarded::new(&image.heap, sequence),
             records: Guarded::new(&image.records, sequence),
             log: Guarded::new(&image.log, sequence),
+            magazines: Guarded::new(&image.magazines, sequence),
         }
     }
 
@@ -78,7 +80,7 @@ impl Lent {
         (sheet, heap, self.records.part_mut())
     }
 
-    /// Every byte is as in the image. A call that reads has changed none, and one that
+    /// Every byte and word is as in the image. A call that reads has changed none, and one that
     /// writes has written what the reference wrote.
     pub fn assert_holds(&self, image: &Image, story: &dyn Display) {
         assert!(self.sheet.holds(&image.sheet), "sheet differs: {story}");
@@ -86,5 +88,7 @@ impl Lent {
         let records_agree = self.records.holds(&image.records);
         assert!(records_agree, "records differ: {story}");
         assert!(self.log.holds(&image.log), "log differs: {story}");
+        let magazines_agree = self.magazines.holds(&image.magazines);
+        assert!(magazines_agree, "magazines differ: {story}");
     }
 }

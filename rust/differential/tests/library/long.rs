@@ -100,6 +100,7 @@ fn every_answer(form: Form, sheet: &mut [u8], heap: &mut [u8], records: &mut [u8
     let order = expected_order(form.order());
     let shape = dump(form).shape;
     let (heap_base, record_base) = (shape.heap_base, shape.record_base);
+    let list: &[u32] = &[];
     [
         combgallop::lay_out_answer(
             p,
@@ -117,10 +118,10 @@ fn every_answer(form: Form, sheet: &mut [u8], heap: &mut [u8], records: &mut [u8
         combgallop::free_answer(p, sheet, heap, records, BUFFER, grant, 1, 2),
         combgallop::store_answer(p, sheet, heap, records, BUFFER, 0, &[1]),
         combgallop::show_answer(p, sheet, heap, records, BUFFER),
-        combgallop::inspect_answer(p, sheet, heap, records, &mut [0; 9]),
-        combgallop::survey_answer(p, sheet, heap, records, &[], &mut [0; 9], &mut [0; 3]),
+        combgallop::inspect_answer(p, sheet, heap, records, list, &mut [0; 9]),
+        combgallop::survey_answer(p, sheet, heap, records, list, &[], &mut [0; 9], &mut [0; 3]),
         combgallop::latest_answer(p, sheet, heap, records, &[], 1, 2),
-        combgallop::report_answer(p, sheet, heap, records, &[], &mut [0; 64]),
+        combgallop::report_answer(p, sheet, heap, records, list, &[], &mut [0; 64]),
     ]
 }
 
@@ -151,9 +152,9 @@ fn logs_of_2_to_the_32_bytes() {
         let (rows, chain, output) = (&mut [0; 9], &mut [0; 3], &mut [0; 64]);
         let p = expected_profile(form.profile());
         let answers = [
-            combgallop::survey_answer(p, &sheet, &heap, &records, &log, rows, chain),
+            combgallop::survey_answer(p, &sheet, &heap, &records, &[], &log, rows, chain),
             combgallop::latest_answer(p, &sheet, &heap, &records, &log, 1, 2),
-            combgallop::report_answer(p, &sheet, &heap, &records, &log, output),
+            combgallop::report_answer(p, &sheet, &heap, &records, &[], &log, output),
         ];
         assert_eq!(answers, [Answer(3); 3], "{form:?}");
     }
@@ -172,7 +173,7 @@ fn output_of_2_to_the_32_bytes() {
         } = dump(form);
         let profile = expected_profile(form.profile());
         let output = &mut output;
-        let answer = combgallop::report_answer(profile, &sheet, &heap, &records, &[], output);
+        let answer = combgallop::report_answer(profile, &sheet, &heap, &records, &[], &[], output);
         assert_eq!(answer, Answer(64 << 32), "{form:?}");
     }
 }

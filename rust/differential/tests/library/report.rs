@@ -1,4 +1,4 @@
-//! The report, on hurt images and with every room for it.
+//! The report, on hurt images with magazine lists and with every room for it.
 
 use std::fmt::Display;
 
@@ -10,6 +10,7 @@ use reference::{chain, Refusal};
 use crate::counts::{Counts, Met, ENDINGS, HEADER_VERDICT, READ_REFUSALS, VERDICTS};
 use crate::expected::{expected_answer, expected_profile, expected_refusal};
 use crate::lent::{Guarded, Lent};
+use crate::listed;
 
 const CASES: u64 = 60_000;
 const SEED: u64 = 0x3c84_a90d;
@@ -23,23 +24,22 @@ pub fn compare(
     story: &dyn Display,
 ) -> Result<String, Refusal> {
     let pattern: Vec<u8> = (0..room).map(|at| at as u8 | 0x80).collect();
-    let (sheet, heap, records) = (&image.sheet, &image.heap, &image.records);
     let mut expected_output = pattern.clone();
-    let (profile, log) = (image.profile(), &image.log);
-    let expected = reference::report(profile, sheet, heap, records, log, &mut expected_output);
+    let expected = by_reference(image, &mut expected_output);
 
     let lent = Lent::new(image, sequence);
     let (sheet, heap, records) = (lent.sheet.part(), lent.heap.part(), lent.records.part());
-    let (profile, log) = (expected_profile(profile), lent.log.part());
+    let (list, log) = (lent.magazines.part(), lent.log.part());
+    let profile = expected_profile(image.profile());
     let mut output = Guarded::new(&pattern, sequence);
-    let answer = report_answer(profile, sheet, heap, records, log, output.part_mut());
+    let answer = report_answer(profile, sheet, heap, records, list, log, output.part_mut());
     let length = expected.map(|length| length as u32);
     assert_eq!(answer, expected_answer(length), "room {room}, {story}");
     assert!(output.holds(&expected_output), "output, {room}, {story}");
     lent.assert_holds(image, story);
 
     let mut output = Guarded::new(&pattern, sequence);
-    let answer = report(profile, sheet, heap, records, log, output.part_mut());
+    let answer = report(profile, sheet, heap, records, list, log, output.part_mut());
     assert_eq!(answer, expected.map_err(expected_refusal), "{story}");
     assert!(output.holds(&expected_output), "output, {room}, {story}");
     lent.assert_holds(image, story);
@@ -47,11 +47,23 @@ pub fn compare(
     expected.map(|_| text)
 }
 
+/// Writes the report with the image's magazine list, if there is room.
+fn by_reference(image: &Image, output: &mut [u8]) -> Result<usize, Refusal> {
+    let (sheet, heap, records) = (&image.sheet, &image.heap, &image.records);
+    let (list, log) = (&image.magazines, &image.log);
+    reference::report(image.profile(), sheet, heap, records, list, log, output)
+}
+
+/// The report's text, without a limit to it.
+pub fn text_by_reference(image: &Image) -> Result<String, Refusal> {
+    let (sheet, heap, records) = (&image.sheet, &image.heap, &image.records);
+    let (list, log) = (&image.magazines, &image.log);
+    reference::report_text(image.profile(), sheet, heap, records, list, log)
+}
+
 /// The exact need, more, one byte less, or anything less.
 fn some_room(image: &Image, sequence: &mut Sequence) -> usize {
-    let (sheet, heap, records) = (&image.sheet, &image.heap, &image.records);
-    let text = reference::report_text(image.profile(), sheet, heap, records, &image.log);
-    let exact = text.map_or(64, |text| text.len());
+    let exact = text_by_reference(image).map_or(64, |text| text.len());
     match sequence.below(12) {
         0 => sequence.below(exact),
         1 => exact - 1,
@@ -67,6 +79,7 @@ fn told_verdict(line: &str) -> Option<u32> {
         [_, "free"] => Some(0),
         [_, "whole"] => Some(1),
         [_, "allocated", _] => Some(2),
+        [_, "cached"] => Some(3),
         [_, "fault", number] | [_, "fault", number, _] => number.parse().ok(),
         _ => None,
     }
@@ -91,14 +104,32 @@ fn hurt_images() {
     let mut counts = Counts::default();
     for profile in PROFILES {
         for number in 0..CASES {
-            let (case, mut sequence) = Case::new(profile, SEED, number);
+            let (case, mut sequence) = Case::listed(profile, SEED, number);
             let room = some_room(&case.image, &mut sequence);
             let found = compare(&case.image, room, &mut sequence, &case);
+            note_list(&mut counts, &case.image, room, &found);
             note(&mut counts, &case.image, found);
+            counts.note(case.image.form, Met::List(case.list));
         }
     }
-    let wanted = [&VERDICTS[..], &ENDINGS, &READ_REFUSALS].concat();
+    let lists = [&listed::wanted()[..], &listed::CAUSES, &listed::LOG_CAUSES].concat();
+    let wanted = [&VERDICTS[..], &ENDINGS, &READ_REFUSALS, &lists].concat();
     counts.finish_with("report, hurt images", SEED, &wanted, &[HEADER_VERDICT]);
+}
+
+/// Notes what the magazine list came to. The room is surely too short where the first line
+/// does not fit.
+fn note_list(counts: &mut Counts, image: &Image, room: usize, found: &Result<String, Refusal>) {
+    match found {
+        Ok(text) => {
+            let verdicts = text.lines().filter_map(told_verdict);
+            listed::note_buffers(counts, image, verdicts);
+        }
+        Err(refusal) => {
+            let is_short = room < "heap report 1\n".len();
+            listed::note_refusal(counts, image, *refusal, &image.log, is_short);
+        }
+    }
 }
 
 /// Every room from none to more than enough, for the dump.

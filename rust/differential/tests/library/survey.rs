@@ -1,5 +1,5 @@
-//! The survey, on hurt images, with every room for it and on every chain of three
-//! records.
+//! The survey, on hurt images with magazine lists, with every room for it and on every chain of
+//! three records.
 
 use std::fmt::Display;
 
@@ -12,7 +12,10 @@ use crate::counts::{Counts, Met, ENDINGS, EXTREMES, HEADER_VERDICT, READ_REFUSAL
 use crate::expected::{
     expected_answer, expected_finding, expected_profile, expected_refusal, put_rows, SHORT_OUTPUT,
 };
+use crate::inspect::by_reference;
 use crate::lent::{numbered, Guarded, Lent};
+use crate::listed;
+use crate::report::text_by_reference;
 
 const CASES: u64 = 60_000;
 const SEED: u64 = 0x4be2_7716;
@@ -35,19 +38,18 @@ pub struct Found {
     chain: Chain,
 }
 
-/// Refusals 1, 2 and 3 as the report gives them, which tests the log as well; then 11 by
+/// Refusals 1, 2, 3 and 4 as the report gives them, which tests the log as well; then 11 by
 /// the rows, as inspect gives it, or by the chain.
 fn expected_survey(image: &Image, room: Room) -> Result<Found, Refusal> {
     let (sheet, heap, records) = (&image.sheet, &image.heap, &image.records);
-    let profile = image.profile();
-    reference::report_text(profile, sheet, heap, records, &image.log)?;
+    text_by_reference(image)?;
     let mut findings = vec![Finding::default(); room.rows / 3];
-    let count = reference::inspect(profile, sheet, heap, records, &mut findings)?;
+    let count = by_reference(image, &mut findings)?;
     findings.truncate(count);
     if room.chain < 3 {
         return Err(SHORT_OUTPUT);
     }
-    let chain = reference::chain(profile, sheet, heap, records)?;
+    let chain = reference::chain(image.profile(), sheet, heap, records)?;
     Ok(Found { findings, chain })
 }
 
@@ -107,8 +109,9 @@ fn compare_survey(
     });
     let (sheet, heap, records) = (lent.sheet.part(), lent.heap.part(), lent.records.part());
     let mut rows = Guarded::new(pattern, sequence);
-    let (profile, log) = (expected_profile(image.profile()), lent.log.part());
-    let found = survey(profile, sheet, heap, records, log, rows.part_mut());
+    let (list, log) = (lent.magazines.part(), lent.log.part());
+    let profile = expected_profile(image.profile());
+    let found = survey(profile, sheet, heap, records, list, log, rows.part_mut());
     let found = found.map(|found| (found.findings.collect(), found.chain));
     let expected = expected.map_err(expected_refusal);
     assert_eq!(found, expected, "{room:?}, {story}");
@@ -140,8 +143,11 @@ fn compare_answer(
     let mut rows = Guarded::new(pattern, sequence);
     let mut chain = Guarded::new(&chain_pattern, sequence);
     let (rows_part, chain_part) = (rows.part_mut(), chain.part_mut());
-    let (profile, log) = (expected_profile(image.profile()), lent.log.part());
-    let answer = survey_answer(profile, sheet, heap, records, log, rows_part, chain_part);
+    let (list, log) = (lent.magazines.part(), lent.log.part());
+    let profile = expected_profile(image.profile());
+    let answer = survey_answer(
+        profile, sheet, heap, records, list, log, rows_part, chain_part,
+    );
     assert_eq!(answer, expected_answer(value), "{room:?}, {story}");
     assert!(rows.holds(&expected_rows), "rows, {room:?}, {story}");
     assert!(chain.holds(&expected_chain), "chain, {room:?}, {story}");
@@ -166,11 +172,10 @@ pub fn note(counts: &mut Counts, image: &Image, room: Room, found: Result<Found,
 fn note_refusal(counts: &mut Counts, image: &Image, room: Room, refusal: Refusal) {
     let form = image.read_form();
     counts.note_refusal(form, refusal);
-    let (sheet, heap, records) = (&image.sheet, &image.heap, &image.records);
     let mut findings = vec![Finding::default(); room.rows / 3];
-    let profile = image.profile();
-    let rows_suffice = reference::inspect(profile, sheet, heap, records, &mut findings).is_ok();
-    let are_areas = reference::chain(profile, sheet, heap, records).is_ok();
+    let inspected = by_reference(image, &mut findings);
+    let rows_suffice = inspected.is_ok();
+    let are_areas = inspected.map_or_else(|refusal| refusal.number > 3, |_| true);
     match refusal.number {
         3 if are_areas => counts.note(form, LOG_WRONG),
         11 if rows_suffice => counts.note(form, CHAIN_SHORT),
@@ -184,18 +189,37 @@ fn hurt_images() {
     let mut counts = Counts::default();
     for profile in PROFILES {
         for number in 0..CASES {
-            let (case, mut sequence) = Case::new(profile, SEED, number);
+            let (case, mut sequence) = Case::listed(profile, SEED, number);
             let room = Room {
                 rows: sequence.room(3 * case.image.shape.count),
                 chain: sequence.room(3),
             };
             let found = compare(&case.image, room, &mut sequence, &case);
+            note_list(&mut counts, &case.image, room, &found);
             note(&mut counts, &case.image, room, found);
+            counts.note(case.image.form, Met::List(case.list));
         }
     }
     let causes = [ROWS_SHORT, CHAIN_SHORT, LOG_WRONG];
+    let lists = [&listed::wanted()[..], &listed::CAUSES, &listed::LOG_CAUSES].concat();
     let wanted = [&VERDICTS[..], &ENDINGS, &READ_REFUSALS, &EXTREMES, &causes].concat();
+    let wanted = [wanted, lists].concat();
     counts.finish_with("survey, hurt images", SEED, &wanted, &[HEADER_VERDICT]);
+}
+
+/// Notes what the magazine list came to.
+fn note_list(counts: &mut Counts, image: &Image, room: Room, found: &Result<Found, Refusal>) {
+    match found {
+        Ok(found) => {
+            let verdicts = found.findings.iter();
+            let verdicts = verdicts.map(|finding| finding.verdict.number());
+            listed::note_buffers(counts, image, verdicts);
+        }
+        Err(refusal) => {
+            let is_short = room.rows < 3 * image.shape.count || room.chain < 3;
+            listed::note_refusal(counts, image, *refusal, &image.log, is_short);
+        }
+    }
 }
 
 /// Every room from none to more than enough, for the dump's three buffers.

@@ -39,6 +39,7 @@ fn stored(text: &str) -> Image {
         heap: input[49..89].to_vec(),
         records: input[89..].to_vec(),
         log: Vec::new(),
+        magazines: Vec::new(),
     }
 }
 

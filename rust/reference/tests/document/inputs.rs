@@ -1,7 +1,8 @@
 //! Inputs drawn from a fixed sequence: no call panics, and a refused call changes no
 //! byte.
 
-use crate::image::{dump, put_sheet, refused, Image, FORMS};
+use crate::image::{dump, put_sheet, refused, Form, Image, BUFFER_0, BUFFER_1, BUFFER_2, FORMS};
+use crate::made::*;
 use reference::*;
 
 /// A fixed sequence of numbers.
@@ -178,8 +179,8 @@ fn reading_calls_agree_on_refusals_and_faults() {
         let profile = image.form.profile();
         let mut rows = [Finding::default(); 512];
         let mut output = [0; 16_384];
-        let inspected = inspect(profile, sheet, heap, records, &mut rows);
-        let reported = report(profile, sheet, heap, records, &[], &mut output);
+        let inspected = inspect(profile, sheet, heap, records, &[], &mut rows);
+        let reported = report(profile, sheet, heap, records, &[], &[], &mut output);
         let walked = chain(profile, sheet, heap, records);
         assert_eq!(inspected.err(), reported.err());
         assert_eq!(inspected.err(), walked.err());
@@ -194,6 +195,108 @@ fn reading_calls_agree_on_refusals_and_faults() {
         assert!(output[..reported.unwrap()].ends_with(last_line.as_bytes()));
     }
     assert!((10_000..20_000).contains(&accepted), "{accepted}");
+}
+
+/// A list of up to four words, most of them starts of the dump's buffers.
+fn some_magazines(sequence: &mut Sequence) -> Vec<u32> {
+    let words = sequence.below(5);
+    (0..words)
+        .map(|_| match sequence.below(12) {
+            0 => some_word(sequence),
+            _ => [BUFFER_0, BUFFER_1, BUFFER_2][sequence.below(3) as usize],
+        })
+        .collect()
+}
+
+/// The starts of three buffers of 24 bytes, by the heap base in a lawful sheet.
+fn starts(image: &Image) -> [u32; 3] {
+    let base = u32::from_be_bytes(image.sheet[10..14].try_into().unwrap());
+    [0, 40, 80].map(|chunk| base + chunk)
+}
+
+/// What the list itself is refused with for an image of three buffers: 3 "over n words",
+/// then 4 for "no buffer's start".
+fn list_refusal(image: &Image, magazines: &[u32]) -> Option<u8> {
+    let starts = starts(image);
+    if magazines.len() > 3 {
+        Some(3)
+    } else if magazines.iter().any(|word| !starts.contains(word)) {
+        Some(4)
+    } else {
+        None
+    }
+}
+
+/// The verdict on a free buffer by its bytes, where it is off the chain and listed once.
+fn cached_verdict(image: &Image, index: usize) -> (u32, u32) {
+    let form = match sheet_order(&image.sheet) {
+        Ok(Order::LowFirst) => Form::Low,
+        _ => Form::High,
+    };
+    let sound = [form.words(&[0xdeadbeef; 6]), form.words(&[0xfeedface; 2])].concat();
+    let bytes = &image.heap[40 * index..][..32];
+    match (0..32).find(|&at| bytes[at] != sound[at]) {
+        None => (3, 0),
+        Some(at @ 0..24) => (25, at as u32),
+        Some(at) => (26, at as u32),
+    }
+}
+
+/// The verdict on a buffer listed so often, by its verdict with an empty list.
+fn listed_verdict(image: &Image, index: usize, alone: (u32, u32), listed: usize) -> (u32, u32) {
+    match (alone.0, listed) {
+        (_, 0) | (20..=22, _) => alone,
+        // Listed twice or more; or on the chain, of the free or the allocated pattern.
+        (_, 2..) | (0 | 24..=26, _) => (22, 0),
+        (23, _) => cached_verdict(image, index),
+        // The allocated pattern, off the chain.
+        _ => (24, 0),
+    }
+}
+
+/// The verdicts on the three buffers of an image with an accepted list, tested against
+/// those with an empty list and against the `I cached` lines of the report.
+fn tested_verdicts(image: &Image, magazines: &[u32]) -> [(u32, u32); 3] {
+    let alone = verdicts(image);
+    let found = verdicts_with(image, magazines);
+    let text = text_with(image, magazines);
+    for (index, start) in starts(image).into_iter().enumerate() {
+        let listed = magazines.iter().filter(|word| **word == start).count();
+        let expected = listed_verdict(image, index, alone[index], listed);
+        assert_eq!(found[index], expected);
+        let is_cached = text.contains(&format!("\n{index} cached\n"));
+        assert_eq!(is_cached, expected.0 == 3);
+    }
+    found
+}
+
+#[test]
+fn list_changes_verdicts_as_its_rules_say() {
+    let mut sequence = Sequence::new(15);
+    let mut seen = [0; 33];
+    for _ in 0..20_000 {
+        let image = some_image(&mut sequence);
+        let magazines = some_magazines(&mut sequence);
+        let mut rows = [Finding::default(); 3];
+        let mut output = [0; 200];
+        let alone = inspected(&image, &[], &mut rows);
+        let answer = inspected(&image, &magazines, &mut rows);
+        let answer_of_report = reported(&image, &magazines, &[], &mut output);
+        assert_eq!(answer.err(), answer_of_report.err());
+        if alone.is_err() {
+            assert_eq!(answer, alone);
+        } else if let Some(number) = list_refusal(&image, &magazines) {
+            assert_eq!(answer, refused(number));
+        } else {
+            for (number, _) in tested_verdicts(&image, &magazines) {
+                seen[number as usize] += 1;
+            }
+        }
+    }
+    for number in [0, 1, 2, 3, 20, 21, 22, 23, 24, 25, 26, 27, 28, 30, 31, 32] {
+        assert!(seen[number] > 0, "{number}");
+    }
+    assert!(seen[3] > 100, "{}", seen[3]);
 }
 
 #[test]

@@ -160,7 +160,7 @@ impl Heap {
     }
 
     /// Every buffer is found as the ledger has it, shows the stored bytes, and is
-    /// met by the chain just when it is not out.
+    /// met by the chain just when it is not out. "Demand 3 reads with an empty list."
     fn check(&self) {
         let Image {
             form,
@@ -169,7 +169,7 @@ impl Heap {
             records,
         } = &self.image;
         let mut rows = vec![Finding::default(); self.count as usize];
-        inspect(form.profile(), sheet, heap, records, &mut rows).unwrap();
+        inspect(form.profile(), sheet, heap, records, &[], &mut rows).unwrap();
         let chain = chain(form.profile(), sheet, heap, records).unwrap();
         assert_eq!(chain.ending, Ending::End);
         let out = self.allocates - self.frees;

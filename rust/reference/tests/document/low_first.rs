@@ -1,6 +1,7 @@
 //! Kernel images with the low byte first, every expected byte written out.
 
 use crate::image::*;
+use crate::made::text;
 use reference::*;
 
 /// Where the records start in their area.
@@ -81,7 +82,7 @@ fn dump_has_the_same_report_of_64_bytes() {
         records[record..][..28].copy_from_slice(&first);
     }
     let sheet = dump(Form::Low).sheet;
-    let text = report_text(Profile::Kernel, &sheet, &LOW_HEAP, &records, &[]).unwrap();
+    let text = report_text(Profile::Kernel, &sheet, &LOW_HEAP, &records, &[], &[]).unwrap();
     assert_eq!(text, DUMP_REPORT);
     assert_eq!(text.len(), 64);
 }
@@ -91,16 +92,8 @@ fn guard_turned_with_its_word_is_missed_at_its_offset() {
     // The word 0xbbddcafe with the low byte first has bb at 23 and fe at 20.
     let mut image = dump(Form::Low);
     image.heap[CHUNK[1] + 20..][..4].copy_from_slice(&[0xfe, 0xca, 0xdd, 0xbb]);
-    let text = report_text(
-        Profile::Kernel,
-        &image.sheet,
-        &image.heap,
-        &image.records,
-        &[],
-    )
-    .unwrap();
     assert_eq!(
-        text,
+        text(&image),
         "heap report 1\n0 free\n1 fault 28 20\n2 free\nchain 2 end\nfaults 1\n"
     );
 }
@@ -111,16 +104,8 @@ fn fill_of_the_other_order() {
     let mut image = dump(Form::Low);
     image.heap[..4].copy_from_slice(&[0xde, 0xad, 0xbe, 0xef]);
     image.heap[CHUNK[2] + R1..][..4].copy_from_slice(&[0xfe, 0xed, 0xfa, 0xce]);
-    let text = report_text(
-        Profile::Kernel,
-        &image.sheet,
-        &image.heap,
-        &image.records,
-        &[],
-    )
-    .unwrap();
     assert_eq!(
-        text,
+        text(&image),
         "heap report 1\n0 fault 25 0\n1 allocated 20\n2 fault 26 28\nchain 2 end\nfaults 2\n"
     );
 }

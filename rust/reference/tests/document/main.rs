@@ -11,6 +11,7 @@ mod lay_out;
 mod ledger;
 mod low_first;
 mod made;
+mod magazines;
 mod program;
 mod refusals;
 mod report;

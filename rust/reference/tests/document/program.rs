@@ -6,7 +6,8 @@ use std::process::{Command, Stdio};
 use std::thread;
 
 use crate::image::{
-    dump, fresh, put_sheet, refused, Form, Image, DUMP_REPORT, KERNEL_FORMS, USER_FORMS,
+    dump, dump_with_head, fresh, put_sheet, refused, Form, Image, BUFFER_0, DUMP_REPORT,
+    KERNEL_FORMS, USER_FORMS,
 };
 use reference::{area_lengths, program, Profile};
 
@@ -252,6 +253,21 @@ fn userland_image() {
         let text = "heap report 1\n0 fault 20\n1 fault 20\n2 fault 23\nchain 0 broken\nfaults 3\n";
         assert_eq!(written(&longer), text);
         assert_eq!(run(longer).0, text);
+    }
+}
+
+/// "The program's input stays, with an empty list": a free buffer off the chain is 23,
+/// whatever follows the records, and that is the log.
+#[test]
+fn no_magazine_list_in_the_input() {
+    for form in KERNEL_FORMS {
+        let input = input_of(&dump_with_head(form, form.record(0)));
+        let text = "heap report 1\n0 fault 23\n1 allocated 20\n2 free\nchain 1 end\nfaults 1\n";
+        for (words, expected) in [(0, text), (1, "refused 3\n"), (4, text)] {
+            let longer = [input.clone(), form.words(&vec![BUFFER_0; words])].concat();
+            assert_eq!(written(&longer), expected, "{words}");
+            assert_eq!(run(longer).0, expected, "{words}");
+        }
     }
 }
 

@@ -3,9 +3,10 @@
 use crate::image::*;
 use reference::*;
 
-/// The refusal number of each call on an image, each call having a later refusal too,
-/// and at last those of allocate and free by thread 0, with that refusal alone and with
-/// another after it; every byte is as before.
+/// The refusal number of each call on an image, each call having a later refusal too (of
+/// a magazine list, a word that is no buffer's start), and at last those of allocate and
+/// free by thread 0, with that refusal alone and with another after it; every byte is as
+/// before.
 fn numbers(image: &Image) -> [u8; 12] {
     let profile = image.form.profile();
     let grant = Grant::Sized(dump_size(image.form));
@@ -18,9 +19,9 @@ fn numbers(image: &Image) -> [u8; 12] {
     } = &mut changed;
     let answers = [
         chain(profile, sheet, heap, records).map(|_| ()),
-        inspect(profile, sheet, heap, records, &mut []).map(|_| ()),
+        inspect(profile, sheet, heap, records, &[1], &mut []).map(|_| ()),
         latest(profile, sheet, heap, records, &[0], u32::MAX, 0).map(|_| ()),
-        report(profile, sheet, heap, records, &[0], &mut []).map(|_| ()),
+        report(profile, sheet, heap, records, &[1], &[0], &mut []).map(|_| ()),
         allocate(profile, sheet, heap, records, Grant::Sized(0), 1, 1).map(|_| ()),
         free(profile, sheet, heap, records, 1, Grant::Whole, 1, 1),
         store(profile, sheet, heap, records, 1, 0, &[1]),

@@ -1,21 +1,7 @@
 //! The report's text, under both profiles.
 
 use crate::image::*;
-use reference::report;
-
-fn text(image: &Image) -> String {
-    let mut output = [0; 16_384];
-    let length = report(
-        image.form.profile(),
-        &image.sheet,
-        &image.heap,
-        &image.records,
-        &[],
-        &mut output,
-    )
-    .unwrap();
-    String::from_utf8(output[..length].to_vec()).unwrap()
-}
+use crate::made::*;
 
 /// The whole report on the dump.
 fn dump_report(form: Form) -> &'static str {
@@ -35,26 +21,12 @@ fn output_of_the_exact_need_is_enough_and_one_less_is_refusal_11() {
     for form in FORMS {
         let image = dump(form);
         let mut exact = [b'x'; 64];
-        let answer = report(
-            image.form.profile(),
-            &image.sheet,
-            &image.heap,
-            &image.records,
-            &[],
-            &mut exact,
-        );
+        let answer = reported(&image, &[], &[], &mut exact);
         assert_eq!(answer, Ok(64));
         assert_eq!(&exact, dump_report(form).as_bytes());
 
         let mut short = [b'x'; 63];
-        let answer = report(
-            image.form.profile(),
-            &image.sheet,
-            &image.heap,
-            &image.records,
-            &[],
-            &mut short,
-        );
+        let answer = reported(&image, &[], &[], &mut short);
         assert_eq!(answer, refused(11));
         assert_eq!(short, [b'x'; 63]);
     }
@@ -65,14 +37,7 @@ fn output_past_the_report_stays() {
     for form in FORMS {
         let image = dump(form);
         let mut output = [b'x'; 100];
-        let answer = report(
-            image.form.profile(),
-            &image.sheet,
-            &image.heap,
-            &image.records,
-            &[],
-            &mut output,
-        );
+        let answer = reported(&image, &[], &[], &mut output);
         assert_eq!(answer, Ok(64));
         assert_eq!(output[64..], [b'x'; 36]);
     }
@@ -92,14 +57,7 @@ fn refusal_3_log_of_wrong_length() {
         for (length, is_lawful) in lengths {
             let log = vec![0xff; length];
             let mut output = [b'x'; 64];
-            let answer = report(
-                image.form.profile(),
-                &image.sheet,
-                &image.heap,
-                &image.records,
-                &log,
-                &mut output,
-            );
+            let answer = reported(&image, &[], &log, &mut output);
             if is_lawful {
                 assert_eq!(answer, Ok(64));
             } else {
@@ -114,14 +72,7 @@ fn refusal_3_log_of_wrong_length() {
 fn refusal_3_comes_before_11() {
     for form in FORMS {
         let image = dump(form);
-        let answer = report(
-            image.form.profile(),
-            &image.sheet,
-            &image.heap,
-            &image.records,
-            &[0],
-            &mut [],
-        );
+        let answer = reported(&image, &[], &[0], &mut []);
         assert_eq!(answer, refused(3));
     }
 }

@@ -90,11 +90,6 @@ fn other(number: u8) -> Refusal {
     Refusal { number, detail: 0 }
 }
 
-fn text(image: &Image) -> String {
-    let profile = image.form.profile();
-    report_text(profile, &image.sheet, &image.heap, &image.records, &[]).unwrap()
-}
-
 #[test]
 fn number_and_value_of_each_hurt() {
     let hurts = [
@@ -680,18 +675,12 @@ fn program_reports_each_hurt() {
 fn output_of_the_exact_need_and_one_less() {
     for form in FORMS {
         for (r1, _) in HURTS {
-            let Image {
-                sheet,
-                heap,
-                records,
-                ..
-            } = dump_with_code(form, r1);
+            let image = dump_with_code(form, r1);
             let mut output = [b'x'; 61];
-            let profile = form.profile();
-            let answer = report(profile, &sheet, &heap, &records, &[], &mut output[..59]);
+            let answer = reported(&image, &[], &[], &mut output[..59]);
             assert_eq!(answer, refused(11));
             assert_eq!(output, [b'x'; 61]);
-            let answer = report(profile, &sheet, &heap, &records, &[], &mut output);
+            let answer = reported(&image, &[], &[], &mut output);
             assert_eq!(answer, Ok(60));
             assert_eq!(output[50..], *b"\nfaults 1\nx");
         }

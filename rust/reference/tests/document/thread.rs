@@ -139,11 +139,8 @@ fn records_with_thread_0_are_sound() {
             records,
             ..
         } = &image;
-        let mut rows = [Finding::default(); 3];
-        let answer = inspect(form.profile(), sheet, heap, records, &mut rows);
-        assert_eq!(answer, Ok(3));
-        let verdicts = rows.map(|row| (row.verdict.number(), row.verdict.value()));
-        assert_eq!(verdicts, [(0, 0), (2, dump_size(form)), (0, 0)]);
+        let expected = [(0, 0), (2, dump_size(form)), (0, 0)];
+        assert_eq!(verdicts(&image), expected);
 
         let walked = chain(form.profile(), sheet, heap, records);
         let expected = Chain {
@@ -152,8 +149,7 @@ fn records_with_thread_0_are_sound() {
         };
         assert_eq!(walked, Ok(expected));
 
-        let text = report_text(form.profile(), sheet, heap, records, &[]);
-        assert_eq!(text.unwrap(), form.of(DUMP_REPORT, USER_REPORT));
+        assert_eq!(text(&image), form.of(DUMP_REPORT, USER_REPORT));
     }
 }
 

@@ -1,29 +1,9 @@
-//! Verdicts 0 to 28 and the checks P1 to P10 (P6 is 31 and P8 is 32), in both orders and
-//! under both profiles.
+//! Verdicts 0 to 28 with an empty magazine list, and the checks P1 to P10 (P6 is 31 and
+//! P8 is 32), in both orders and under both profiles.
 
 use crate::image::*;
-use reference::{inspect, CodeHurt, Finding, Verdict};
-
-/// The findings on the three buffers of an image.
-fn findings(image: &Image) -> [Finding; 3] {
-    let mut rows = [Finding::default(); 3];
-    let answer = inspect(
-        image.form.profile(),
-        &image.sheet,
-        &image.heap,
-        &image.records,
-        &mut rows,
-    );
-    assert_eq!(answer, Ok(3));
-    rows
-}
-
-/// The number and value of each verdict, with the index of each finding tested.
-fn verdicts(image: &Image) -> [(u32, u32); 3] {
-    let rows = findings(image);
-    assert_eq!(rows.map(|row| row.index), [0, 1, 2]);
-    rows.map(|row| (row.verdict.number(), row.verdict.value()))
-}
+use crate::made::*;
+use reference::{CodeHurt, Finding, Verdict};
 
 /// The dump with one word of its heap changed.
 fn dump_with_heap_word(form: Form, at: usize, word: u32) -> Image {
@@ -357,15 +337,9 @@ fn rows_past_n_stay() {
     for form in FORMS {
         let image = dump(form);
         let mut rows = [KEPT; 5];
-        let answer = inspect(
-            image.form.profile(),
-            &image.sheet,
-            &image.heap,
-            &image.records,
-            &mut rows,
-        );
+        let answer = inspected(&image, &[], &mut rows);
         assert_eq!(answer, Ok(3));
-        assert_eq!(rows[..3], findings(&image));
+        assert_eq!(rows[..3], findings_with(&image, &[]));
         assert_eq!(rows[3..], [KEPT; 2]);
     }
 }
@@ -375,13 +349,7 @@ fn refusal_11_rows_shorter_than_n() {
     for form in FORMS {
         let image = dump(form);
         let mut rows = [KEPT; 2];
-        let answer = inspect(
-            image.form.profile(),
-            &image.sheet,
-            &image.heap,
-            &image.records,
-            &mut rows,
-        );
+        let answer = inspected(&image, &[], &mut rows);
         assert_eq!(answer, refused(11));
         assert_eq!(rows, [KEPT; 2]);
     }

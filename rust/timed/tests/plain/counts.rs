@@ -6,7 +6,7 @@ use differential::{Form, KERNEL_FORMS};
 use reference::{Finding, Refusal};
 
 /// Every verdict there is under the kernel profile, which the C is written for.
-pub const VERDICTS: [u32; 14] = [0, 1, 2, 20, 21, 22, 23, 24, 25, 26, 27, 28, 31, 32];
+pub const VERDICTS: [u32; 15] = [0, 1, 2, 3, 20, 21, 22, 23, 24, 25, 26, 27, 28, 31, 32];
 
 /// How often each thing was met, for each form that the images were made in.
 #[derive(Default)]

@@ -31,7 +31,7 @@ use denote.RattleType.{owns}
 use denote.Laws.{Is, shows}
 use denote.Memory.{mem}
 use denote.Plain.{uint-vals, uint-tells}
-use denote.Builtin.{u8, usize}
+use denote.Builtin.{u8, u32, usize}
 use denote.Ref.{RefT}
 use denote.Array.{Array, arrayVal, array-typed}
 use denote.Slice.{sliceVal, MutSlice, ShrSlice, Room, finally, slice-vals}
@@ -70,8 +70,8 @@ use Rattle.image.proofs.inspect.inspect.Symbol.{name as #image·inspect·inspec
 use Rattle.image.proofs.inspect.inspect.Met as inspect-thm
 use Rattle.call_trace.specs.Findings.{blank, blanks, seenOf}
 use Rattle.call_trace.specs.declared.findings.Seen.{Seen}
-use Rattle.window.proofs.Steps.{of-local, to-local, leaves, number, twice, asks}
-use Rattle.image.proofs.Lent.{laid, stays-bytes, goes-bytes, tells-bytes}
+use Rattle.window.proofs.Steps.{of-local, to-local, leaves, number, asks}
+use Rattle.image.proofs.Lent.{laid, twice-of, stays-of, goes-of, tells-of}
 use Rattle.call_trace.proofs.Arrays.{apart, freed}
 use Rattle.call_trace.proofs.findings.Seen as K
 use Rattle.call_trace.proofs.findings.Seen.Laws as K′
@@ -81,11 +81,14 @@ use Rattle.call_trace.proofs.findings.look.Statement as stated
 use Rattle.call_trace.proofs.findings.look.Code as code
 
 -- the profile, a plain value: nothing is had of it at exit
-abbrev ProfileS : Slot 3
+abbrev ProfileS : Slot 4
 ProfileS = plain (λ _. P.the-row)
 
 abbrev stayed : Stays (outer.ended .signature .params) (outer.ended .kept)
-stayed = (stay-dropped ProfileS yes, (stays-bytes 0 tt, (stays-bytes 1 tt, (stays-bytes 2 tt, (stay-none (λ _. usize) yes, tt)))))
+stayed = (
+  stay-dropped ProfileS yes,
+  (stays-of u8 0 tt, (stays-of u8 1 tt, (stays-of u8 2 tt, (stays-of u32 3 tt, (stay-none (λ _. usize) yes, tt))))),
+)
 
 abbrev val : Finding → Val
 val = LL.val T.the-type T′.the-laws
@@ -112,12 +115,12 @@ module _ {M : Type 1} (𝓤 : URA M) (H : Heap 𝓤) (A : Atoms 𝓤) (mem₀ : 
 
 module _
     {M : Type 1} (𝓤 : URA M) (H : Heap 𝓤) (A : Atoms 𝓤) (W : Given 𝓤 H A) (mem₀ : Memory → SProp 𝓤) (run : Routine → Fun 𝓤)
-    (κ₀ κ₁ κ₂ : Lft) (q₀ q₁ q₂ : Share) (pf : Profile) (is-pf : Is P.the-row pf (EL.vals P.the-type P′.the-laws pf))
-    (sh hp rc : RefT (List ℕ)) (k : ℕ) (k-fits : k < 2 ^ 64) (within : k < 4) where
-  abbrev a : Profile × (RefT (List ℕ) × (RefT (List ℕ) × (RefT (List ℕ) × (ℕ × Unit {0}))))
-  a = (pf, (sh, (hp, (rc, (k, tt)))))
+    (κ₀ κ₁ κ₂ κ₃ : Lft) (q₀ q₁ q₂ q₃ : Share) (pf : Profile) (is-pf : Is P.the-row pf (EL.vals P.the-type P′.the-laws pf))
+    (sh hp rc mg : RefT (List ℕ)) (k : ℕ) (k-fits : k < 2 ^ 64) (within : k < 4) where
+  abbrev a : Profile × (RefT (List ℕ) × (RefT (List ℕ) × (RefT (List ℕ) × (RefT (List ℕ) × (ℕ × Unit {0})))))
+  a = (pf, (sh, (hp, (rc, (mg, (k, tt))))))
 
-  -- the machine values of the profile and of the three slices
+  -- the machine values of the profile and of the four slices
   abbrev pv : Val
   pv = EL.val P.the-type P′.the-laws pf
 
@@ -130,12 +133,15 @@ module _
   abbrev rv : Val
   rv = sliceVal (rc .ptr) (length (rc .now))
 
-  abbrev at : List Val × (List Val × (List Val × (List Val × (List Val × Unit {0}))))
-  at = (pv ∷ [], (sv ∷ [], (hv ∷ [], (rv ∷ [], (vint w64 k ∷ [], tt)))))
+  abbrev gv : Val
+  gv = sliceVal (mg .ptr) (length (mg .now))
+
+  abbrev at : List Val × (List Val × (List Val × (List Val × (List Val × (List Val × Unit {0})))))
+  at = (pv ∷ [], (sv ∷ [], (hv ∷ [], (rv ∷ [], (gv ∷ [], (vint w64 k ∷ [], tt))))))
 
   -- what `inspect` answers, the array after the call, the element that is read, and the result
   abbrev seen-all : Filling Answer Finding
-  seen-all = inspectOf pf (lent sh hp rc) blanks
+  seen-all = inspectOf pf (lent sh hp rc) (mg .now) blanks
 
   abbrev ans : Answer
   ans = seen-all .answer
@@ -147,13 +153,13 @@ module _
   elem = getD zs k blank
 
   abbrev seen : Seen
-  seen = seenOf pf (lent sh hp rc) k
+  seen = seenOf pf (lent sh hp rc) (mg .now) k
 
-  abbrev κs : Lfts 3
-  κs = (κ₀, (κ₁, (κ₂, tt)))
+  abbrev κs : Lfts 4
+  κs = (κ₀, (κ₁, (κ₂, (κ₃, tt))))
 
-  abbrev qs : Shares 3
-  qs = (q₀, (q₁, (q₂, tt)))
+  abbrev qs : Shares 4
+  qs = (q₀, (q₁, (q₂, (q₃, tt))))
 
   abbrev Post : Val → SProp 𝓤
   Post = walkOf 𝓤 H A outer.ended stayed (outer.clauses 𝓤 H A mem₀ run) .post ((κs, qs, tt, a, at), tt)
@@ -167,71 +173,75 @@ module _
   abbrev RecordsOwn : Fml
   RecordsOwn = ShrSlice (named 2) κ₂ u8 .own rc (rv ∷ [])
 
+  abbrev ListOwn : Fml
+  ListOwn = ShrSlice (named 3) κ₃ u32 .own mg (gv ∷ [])
+
   -- the lifetimes' tokens, and what the parameters own
   abbrev Tokens : Item 𝓤
-  Tokens = ‵ (flft κ₀ q₀) ⊛ ‵ (flft κ₁ q₁) ⊛ ‵ (flft κ₂ q₂) ⊛ ‵ ftrue
+  Tokens = ‵ (flft κ₀ q₀) ⊛ ‵ (flft κ₁ q₁) ⊛ ‵ (flft κ₂ q₂) ⊛ ‵ (flft κ₃ q₃) ⊛ ‵ ftrue
 
   abbrev Params : Item 𝓤
-  Params = ‵ (owns (P.the-row ∷ ShrSlice (named 0) κ₀ u8 ∷ ShrSlice (named 1) κ₁ u8 ∷ ShrSlice (named 2) κ₂ u8 ∷ usize ∷ []) a at)
+  Params =
+      ‵ (owns (P.the-row ∷ ShrSlice (named 0) κ₀ u8 ∷ ShrSlice (named 1) κ₁ u8 ∷ ShrSlice (named 2) κ₂ u8 ∷ ShrSlice (named 3) κ₃ u32 ∷ usize ∷ []) a at)
 
   abbrev Areas : Item 𝓤
-  Areas = ‵ SheetOwn ⊛ ‵ HeapOwn ⊛ ‵ RecordsOwn
+  Areas = ‵ SheetOwn ⊛ ‵ HeapOwn ⊛ ‵ RecordsOwn ⊛ ‵ ListOwn
 
   exits : Is K.the-row seen (LL.vals K.the-type K′.the-laws seen) → ent 𝓤 (⋆ 𝓤 H A (Tokens ∷ Areas ∷ [])) (Post (LL.val K.the-type K′.the-laws seen))
   exits is =
       qed W (Tokens ∷ Areas ∷ []) ∵ suffices ! _ (ends-at 𝓤 H A outer.ended stayed (outer.clauses 𝓤 H A mem₀ run) W ((κs, qs, tt, a, at), tt)
-      (LL.val K.the-type K′.the-laws seen) seen (tt, (tt, (tt, (tt, (tt, tt))))) (tt, (tt, (tt, (tt, (tt, tt)))))) $ says ! refl $ frame ! $
+      (LL.val K.the-type K′.the-laws seen) seen (tt, (tt, (tt, (tt, (tt, (tt, tt)))))) (tt, (tt, (tt, (tt, (tt, (tt, tt))))))) $ says ! refl $ frame ! $
       -- [what the areas own]
-      split ! $ move ! (1 ∷ []) $ split ! $ nothing ! $ number ! w64 k k-fits $
-      move ! (2 ∷ 0 ∷ []) $ fjoin ! $ move ! (1 ∷ 0 ∷ []) $ fjoin ! $ move ! (1 ∷ 0 ∷ []) $ fjoin ! $ nothing ! $ fjoin ! $ frame ! $
+      split ! $ move ! (1 ∷ []) $ split ! $ move ! (1 ∷ []) $ split ! $ nothing ! $ number ! w64 k k-fits $ move ! (2 ∷ 0 ∷ []) $ fjoin ! $
+      move ! (1 ∷ 0 ∷ []) $ fjoin ! $ move ! (1 ∷ 0 ∷ []) $ fjoin ! $ move ! (1 ∷ 0 ∷ []) $ fjoin ! $ nothing ! $ fjoin ! $ frame ! $
       owned ! K.the-row (Is K.the-row) (LL.makes K.the-type K′.the-plain 𝓤 H A) seen _ is $ done !
 
   -- ---- the call of `inspect`, at the array in the block l, lent for ν under the name γ
   abbrev x : ℕ → GName → RefT (List Finding)
   x l γ = record { ptr = (l, 0); name = γ; now = blanks }
 
-  abbrev all-κs : ℕ → Lfts 4
-  all-κs ν = (κ₀, (κ₁, (κ₂, (ν ∷ [], tt))))
+  abbrev all-κs : ℕ → Lfts 5
+  all-κs ν = (κ₀, (κ₁, (κ₂, (κ₃, (ν ∷ [], tt)))))
 
-  abbrev to-a : ℕ → GName → Profile × (RefT (List ℕ) × (RefT (List ℕ) × (RefT (List ℕ) × (RefT (List Finding) × Unit {0}))))
-  to-a l γ = (pf, (sh, (hp, (rc, (x l γ, tt)))))
+  abbrev to-a : ℕ → GName → Profile × (RefT (List ℕ) × (RefT (List ℕ) × (RefT (List ℕ) × (RefT (List ℕ) × (RefT (List Finding) × Unit {0})))))
+  to-a l γ = (pf, (sh, (hp, (rc, (mg, (x l γ, tt))))))
 
-  abbrev passed : ℕ → List Val × (List Val × (List Val × (List Val × (List Val × Unit {0}))))
-  passed l = (pv ∷ [], (sv ∷ [], (hv ∷ [], (rv ∷ [], (sliceVal (l, 0) 4 ∷ [], tt)))))
+  abbrev passed : ℕ → List Val × (List Val × (List Val × (List Val × (List Val × (List Val × Unit {0})))))
+  passed l = (pv ∷ [], (sv ∷ [], (hv ∷ [], (rv ∷ [], (gv ∷ [], (sliceVal (l, 0) 4 ∷ [], tt))))))
 
   abbrev to : ℕ → ℕ → GName → Inspect 𝓤 H A mem₀ run .Ghost
-  to l ν γ = ((all-κs ν, (q₀, (q₁, (q₂, (fullShare, tt)))), tt, to-a l γ, passed l), tt)
+  to l ν γ = ((all-κs ν, (q₀, (q₁, (q₂, (q₃, (fullShare, tt))))), tt, to-a l γ, passed l), tt)
 
   abbrev RowsOwn : ℕ → ℕ → GName → Fml
-  RowsOwn l ν γ = MutSlice (named 3) (ν ∷ []) T.the-row .own (x l γ) (sliceVal (l, 0) 4 ∷ [])
+  RowsOwn l ν γ = MutSlice (named 4) (ν ∷ []) T.the-row .own (x l γ) (sliceVal (l, 0) 4 ∷ [])
 
   abbrev AllTokens : ℕ → Item 𝓤
-  AllTokens ν = ‵ (flft κ₀ q₀) ⊛ ‵ (flft κ₁ q₁) ⊛ ‵ (flft κ₂ q₂) ⊛ ‵ (flft (ν ∷ []) fullShare) ⊛ ‵ ftrue
+  AllTokens ν = ‵ (flft κ₀ q₀) ⊛ ‵ (flft κ₁ q₁) ⊛ ‵ (flft κ₂ q₂) ⊛ ‵ (flft κ₃ q₃) ⊛ ‵ (flft (ν ∷ []) fullShare) ⊛ ‵ ftrue
 
   -- what is had of the parameters and of the array gives what `inspect` asks, and what the areas own is kept
   goes : (l ν : ℕ) (γ : GName) → ent 𝓤 (⋆ 𝓤 H A (Params ∷ Tokens ∷ ‵ (RowsOwn l ν γ) ∷ ‵ (flft (ν ∷ []) fullShare) ∷ []))
-      (⋆ 𝓤 H A (raw (Inspect 𝓤 H A mem₀ run .pre (to l ν γ)) ∷ ‵ SheetOwn ∷ ‵ HeapOwn ∷ ‵ RecordsOwn ∷ []))
+      (⋆ 𝓤 H A (raw (Inspect 𝓤 H A mem₀ run .pre (to l ν γ)) ∷ ‵ SheetOwn ∷ ‵ HeapOwn ∷ ‵ RecordsOwn ∷ ‵ ListOwn ∷ []))
   goes l ν γ =
       qed W (Params ∷ Tokens ∷ ‵ (RowsOwn l ν γ) ∷ ‵ (flft (ν ∷ []) fullShare) ∷ []) ∵
-      fsplit ! $ drop ! $ fsplit ! $ twice ! (named 0) κ₀ sh $ move ! (2 ∷ []) $ fsplit ! $ twice ! (named 1) κ₁ hp $ move ! (2 ∷ []) $ fsplit ! $
-      twice ! (named 2) κ₂ rc $ move ! (2 ∷ []) $ drop ! $
+      fsplit ! $ drop ! $ fsplit ! $ twice-of ! u8 (named 0) κ₀ sh $ move ! (2 ∷ []) $ fsplit ! $ twice-of ! u8 (named 1) κ₁ hp $ move ! (2 ∷ []) $
+      fsplit ! $ twice-of ! u8 (named 2) κ₂ rc $ move ! (2 ∷ []) $ fsplit ! $ twice-of ! u32 (named 3) κ₃ mg $ move ! (2 ∷ []) $ drop ! $
       -- [what each area owns, twice; the tokens; the array's borrow; its token]
-      nothing ! $ move ! (8 ∷ 0 ∷ []) $ fjoin ! $ move ! (1 ∷ 0 ∷ []) $ fjoin ! $ move ! (2 ∷ 0 ∷ []) $ fjoin ! $ move ! (3 ∷ 0 ∷ []) $ fjoin ! $
-      owned ! P.the-row (Is P.the-row) (EL.makes P.the-type P′.the-plain 𝓤 H A) pf _ is-pf $ fjoin ! $
-      move ! (4 ∷ []) $ split ! $ move ! (1 ∷ []) $ split ! $ move ! (1 ∷ []) $ split ! $
-      move ! (8 ∷ 1 ∷ []) $ join ! $ move ! (1 ∷ 0 ∷ []) $ join ! $ move ! (1 ∷ 0 ∷ []) $ join ! $ move ! (1 ∷ 0 ∷ []) $ join ! $
-      use2 W (raw (Inspect 𝓤 H A mem₀ run .pre (to l ν γ))) (asks 𝓤 _) $ move ! (0 ∷ 3 ∷ 2 ∷ 1 ∷ []) $ done !
+      nothing ! $ move ! (10 ∷ 0 ∷ []) $ fjoin ! $ move ! (1 ∷ 0 ∷ []) $ fjoin ! $ move ! (2 ∷ 0 ∷ []) $ fjoin ! $ move ! (3 ∷ 0 ∷ []) $ fjoin ! $
+      move ! (4 ∷ 0 ∷ []) $ fjoin ! $ owned ! P.the-row (Is P.the-row) (EL.makes P.the-type P′.the-plain 𝓤 H A) pf _ is-pf $ fjoin ! $
+      move ! (5 ∷ []) $ split ! $ move ! (1 ∷ []) $ split ! $ move ! (1 ∷ []) $ split ! $ move ! (1 ∷ []) $ split ! $
+      move ! (10 ∷ 1 ∷ []) $ join ! $ move ! (1 ∷ 0 ∷ []) $ join ! $ move ! (1 ∷ 0 ∷ []) $ join ! $ move ! (1 ∷ 0 ∷ []) $ join ! $
+      move ! (1 ∷ 0 ∷ []) $ join ! $ use2 W (raw (Inspect 𝓤 H A mem₀ run .pre (to l ν γ))) (asks 𝓤 _) $ move ! (0 ∷ 4 ∷ 3 ∷ 2 ∷ 1 ∷ []) $ done !
 
   -- the last list of the rows, of what is said of all last values
   abbrev Lasts : Type 0
-  Lasts = Unit {0} × (Unit {0} × (Unit {0} × (Unit {0} × (List Finding × Unit {0}))))
+  Lasts = Unit {0} × (Unit {0} × (Unit {0} × (Unit {0} × (Unit {0} × (List Finding × Unit {0})))))
 
   last-rows : (l ν : ℕ) (γ : GName) (ws : Lasts)
-      → ent 𝓤 (sem 𝓤 H A (lasts inspect.ended (all-κs ν) (to-a l γ) ws)) (sem 𝓤 H A (finally T.the-row γ (ws .1 .1 .1 .1 .0)))
+      → ent 𝓤 (sem 𝓤 H A (lasts inspect.ended (all-κs ν) (to-a l γ) ws)) (sem 𝓤 H A (finally T.the-row γ (ws .1 .1 .1 .1 .1 .0)))
   last-rows l ν γ ws =
       qed W (‵ (lasts inspect.ended (all-κs ν) (to-a l γ) ws) ∷ []) ∵
-      fsplit ! $ move ! (1 ∷ []) $ fsplit ! $ move ! (1 ∷ []) $ fsplit ! $ move ! (1 ∷ []) $ fsplit ! $ move ! (1 ∷ []) $ fsplit ! $ fsplit ! $
-      keep ! (0 ∷ []) $ done !
+      fsplit ! $ move ! (1 ∷ []) $ fsplit ! $ move ! (1 ∷ []) $ fsplit ! $ move ! (1 ∷ []) $ fsplit ! $ move ! (1 ∷ []) $ fsplit ! $
+      move ! (1 ∷ []) $ fsplit ! $ fsplit ! $ keep ! (0 ∷ []) $ done !
 
   -- what is had once `inspect` has returned u, and what is ensured of its result and of the rows
   abbrev Answered : ℕ → ℕ → GName → Val → Item 𝓤
@@ -240,19 +250,20 @@ module _
 
   abbrev Ensured : ℕ → ℕ → GName → Answer → Item 𝓤
   Ensured l ν γ r = some (λ (ws : Lasts). ‵ (lasts inspect.ended (all-κs ν) (to-a l γ) ws)
-      ⊛ raw (fact 𝓤 (filling r (ws .1 .1 .1 .1 .0) ≡ seen-all)))
+      ⊛ raw (fact 𝓤 (filling r (ws .1 .1 .1 .1 .1 .0) ≡ seen-all)))
 
   module _ (C : Calls 𝓤 H) (Λ : Loops 𝓤 H) (fm : FmC 𝓤 H (W .laws) C) (known : Triple 𝓤 (C #image·inspect·inspect) (Inspect 𝓤 H A mem₀ run)) where
-    walk : Room u8 (length (sh .now)) → Room u8 (length (hp .now)) → Room u8 (length (rc .now))
-        → ent 𝓤 (onEntry 𝓤 H A outer.signature κs qs a at) (WpFn 𝓤 H C Λ code.function (pv ∷ sv ∷ hv ∷ rv ∷ vint w64 k ∷ []) Post)
-    walk sheet-room heap-room records-room =
-        qed W (Tokens ∷ Params ∷ []) ∵ enter ! C Λ code.function (pv ∷ sv ∷ hv ∷ rv ∷ vint w64 k ∷ []) _ $
+    walk : Room u8 (length (sh .now)) → Room u8 (length (hp .now)) → Room u8 (length (rc .now)) → Room u32 (length (mg .now))
+        → ent 𝓤 (onEntry 𝓤 H A outer.signature κs qs a at) (WpFn 𝓤 H C Λ code.function (pv ∷ sv ∷ hv ∷ rv ∷ gv ∷ vint w64 k ∷ []) Post)
+    walk sheet-room heap-room records-room list-room =
+        qed W (Tokens ∷ Params ∷ []) ∵ enter ! C Λ code.function (pv ∷ sv ∷ hv ∷ rv ∷ gv ∷ vint w64 k ∷ []) _ $
         alloc1 ! (λ l₀. alloc1 ! (λ l₁. alloc1 ! (λ l₂. alloc1 ! (λ l₃. alloc1 ! (λ l₄. alloc1 ! (λ l₅. alloc1 ! (λ l₆. alloc1 ! (λ l₇.
         alloc1 ! (λ l₈. alloc1 ! (λ l₉. alloc1 ! (λ l₁₀. alloc1 ! (λ l₁₁. alloc1 ! (λ l₁₂. alloc1 ! (λ l₁₃. alloc1 ! (λ l₁₄. alloc1 ! (λ l₁₅.
-        alloc0 ! $ params1 ! $ pass1 ! (init ! 28 refl (EL.lawful P.the-type P′.the-laws 𝓤 H A W tt .typed pf _ is-pf .0)) $
-        pass1 ! (init ! 26 refl (tt, (tt, (record { fits = sheet-room .0 }, tt)))) $ pass1 ! (init ! 24 refl (tt, (tt, (record { fits = heap-room .0 }, tt)))) $
-        pass1 ! (init ! 22 refl (tt, (tt, (record { fits = records-room .0 }, tt)))) $ pass1 ! (init ! 20 refl (tt, record { fits = k-fits })) $ pass0 ! $
-        -- [_15; …; _14; …; _0; …; the tokens; what the parameters own]: the array is made
+        alloc1 ! (λ l₁₆. alloc0 ! $ params1 ! $ pass1 ! (init ! 30 refl (EL.lawful P.the-type P′.the-laws 𝓤 H A W tt .typed pf _ is-pf .0)) $
+        pass1 ! (init ! 28 refl (tt, (tt, (record { fits = sheet-room .0 }, tt)))) $ pass1 ! (init ! 26 refl (tt, (tt, (record { fits = heap-room .0 }, tt)))) $
+        pass1 ! (init ! 24 refl (tt, (tt, (record { fits = records-room .0 }, tt)))) $
+        pass1 ! (init ! 22 refl (tt, (tt, (record { fits = list-room .0 }, tt)))) $ pass1 ! (init ! 20 refl (tt, record { fits = k-fits })) $ pass0 ! $
+        -- [_16; …; _15; …; _0; …; the tokens; what the parameters own]: the array is made
         to-local ! (agg ! (and-then ! (lit ! tt) (no-more !))) (init ! 12 refl (EL.lawful S.the-type S′.the-laws 𝓤 H A W tt .typed Whole _ is-whole .0)) $
         to-local ! (agg ! (and-then ! (lit ! tt) (and-then ! (of-local ! 12 refl) (no-more !)))) (init ! 10 refl (typed blank is-blank)) $
         to-local ! (rep ! 4 (of-local ! 10 refl))
@@ -261,47 +272,48 @@ module _
         to-local ! (agg ! (and-then ! (of-local ! 8 refl) (and-then ! (lit ! tt) (no-more !)))) (init ! 6 refl (tt, (tt, (record { fits = lit< tt }, tt)))) $
         -- it is lent for a lifetime ν of the call
         move ! (18 ∷ []) $ laid ! T.the-row (LL.makes T.the-type T′.the-plain 𝓤 H A) blanks is-array $
-        use1 W (‵ (cells (mem T.the-row) blanks l₆ 0)) (apart 𝓤 H A W T.the-row tt 4 l₆ 0 blanks) $ lft-new ! tt (λ ν. move ! (1 ∷ []) $
-        use1 W (later (some (λ (γ : GName). ‵ (RowsOwn l₆ ν γ) ⊛ ‵ (flent (ν ∷ []) (Held T.the-row 4 l₆ 0 γ)))))
-        (lends-slice 𝓤 H A W T.the-row (named 3) (ν ∷ []) blanks l₆ 0 room4) $ await ! tt $ pick ! (λ γ. split ! $
-        -- [the slice; the lender's part; ν's token; _15; …; the tokens; what the parameters own]
-        move ! (35 ∷ 34 ∷ 0 ∷ 2 ∷ []) $ group ! 4 $ use1 W (raw (Inspect 𝓤 H A mem₀ run .pre (to l₆ ν γ)) ⊛ Areas) (goes l₆ ν γ) $ split ! $
-        -- [what `inspect` asks; what the areas own; the lender's part; _15; …]
-        calls-at ! fm (Inspect 𝓤 H A mem₀ run) known (to l₆ ν γ) (and-then ! (of-local ! 30 refl) (and-then ! (of-local ! 28 refl)
-        (and-then ! (of-local ! 26 refl) (and-then ! (of-local ! 24 refl) (and-then ! (of-local ! 9 refl) (no-more !)))))) (λ u.
-        use1 W (later (Answered l₆ ν γ u)) (id⊢ 𝓤 _) $ await ! tt $ pick ! (λ r. split ! $ move ! (1 ∷ []) $
-        use1 W (Ensured l₆ ν γ r) (id⊢ 𝓤 _) $ pick ! (λ ws. split ! $ use1 W (‵ (finally T.the-row γ (ws .1 .1 .1 .1 .0))) (last-rows l₆ ν γ ws) $
-        move ! (1 ∷ []) $ heard ! (filling r (ws .1 .1 .1 .1 .0) ≡ seen-all) (λ told.
-        -- [the last list; the tokens and the result; what the areas own; the lender's part; _15; …]
+        use1 W (‵ (cells (mem T.the-row) blanks l₇ 0)) (apart 𝓤 H A W T.the-row tt 4 l₇ 0 blanks) $ lft-new ! tt (λ ν. move ! (1 ∷ []) $
+        use1 W (later (some (λ (γ : GName). ‵ (RowsOwn l₇ ν γ) ⊛ ‵ (flent (ν ∷ []) (Held T.the-row 4 l₇ 0 γ)))))
+        (lends-slice 𝓤 H A W T.the-row (named 4) (ν ∷ []) blanks l₇ 0 room4) $ await ! tt $ pick ! (λ γ. split ! $
+        -- [the slice; the lender's part; ν's token; _16; …; the tokens; what the parameters own]
+        move ! (37 ∷ 36 ∷ 0 ∷ 2 ∷ []) $ group ! 4 $ use1 W (raw (Inspect 𝓤 H A mem₀ run .pre (to l₇ ν γ)) ⊛ Areas) (goes l₇ ν γ) $ split ! $
+        -- [what `inspect` asks; what the areas own; the lender's part; _16; …]
+        calls-at ! fm (Inspect 𝓤 H A mem₀ run) known (to l₇ ν γ) (and-then ! (of-local ! 32 refl) (and-then ! (of-local ! 30 refl)
+        (and-then ! (of-local ! 28 refl) (and-then ! (of-local ! 26 refl) (and-then ! (of-local ! 24 refl)
+        (and-then ! (of-local ! 9 refl) (no-more !))))))) (λ u.
+        use1 W (later (Answered l₇ ν γ u)) (id⊢ 𝓤 _) $ await ! tt $ pick ! (λ r. split ! $ move ! (1 ∷ []) $
+        use1 W (Ensured l₇ ν γ r) (id⊢ 𝓤 _) $ pick ! (λ ws. split ! $ use1 W (‵ (finally T.the-row γ (ws .1 .1 .1 .1 .1 .0))) (last-rows l₇ ν γ ws) $
+        move ! (1 ∷ []) $ heard ! (filling r (ws .1 .1 .1 .1 .1 .0) ≡ seen-all) (λ told.
+        -- [the last list; the tokens and the result; what the areas own; the lender's part; _16; …]
         move ! (1 ∷ []) $ split ! $ move ! (1 ∷ []) $ rewrite ! 0 (λ (i : Answer). ‵ (I.the-row .own i (u ∷ [])))
         (ap (λ (z : Filling Answer Finding). z .answer) told) refl $
         peeks ! I.the-row (Is I.the-row) (shows 𝓤 H A I.the-row) ans (u ∷ []) (λ is-u. drop ! $
         land ! (from ! (stop !)) (init ! 20 refl (EL.lawful I.the-type I′.the-laws 𝓤 H A W tt .typed ans _ is-u .0)) $
-        rewrite ! 20 (λ (v : Val). ‵ (fat fullShare I′.mir l₇ 0 v)) (ap only (EL.tells I.the-type I′.the-laws ans _ is-u)) refl $
+        rewrite ! 20 (λ (v : Val). ‵ (fat fullShare I′.mir l₈ 0 v)) (ap only (EL.tells I.the-type I′.the-laws ans _ is-u)) refl $
         -- the lifetime is ended, and the array is back at the list that `inspect` ensures
-        split ! $ move ! (1 ∷ []) $ split ! $ move ! (1 ∷ []) $ split ! $ move ! (1 ∷ []) $ split ! $ lft-end ! tt $
-        rewrite ! 5 (λ (ys : List Finding). ‵ (finally T.the-row γ ys)) (ap (λ (z : Filling Answer Finding). z .rows) told) refl $ move ! (0 ∷ 7 ∷ 5 ∷ []) $
-        use3 W (later (‵ (Arr (mem T.the-row) 4 .lies zs l₆ 0))) (slice-back 𝓤 H A W T.the-row (ν ∷ []) γ zs 4 l₆ 0) $ await ! tt $ fsplit ! $
-        feqL ! (λ long. use1 W (‵ (row T.the-row fullShare zs l₆ 0)) (whole-out 𝓤 H A W T.the-row zs l₆ 0) $
-        move ! (2 ∷ 1 ∷ []) $ join ! $ move ! (2 ∷ 0 ∷ []) $ join ! $ move ! (2 ∷ 0 ∷ []) $ join ! $ move ! (1 ∷ []) $
-        -- [the row; the tokens; what the areas own; _15; …; _7; …; that _6 dies; _5; …; _0; …]
+        split ! $ move ! (1 ∷ []) $ split ! $ move ! (1 ∷ []) $ split ! $ move ! (1 ∷ []) $ split ! $ move ! (1 ∷ []) $ split ! $ lft-end ! tt $
+        rewrite ! 6 (λ (ys : List Finding). ‵ (finally T.the-row γ ys)) (ap (λ (z : Filling Answer Finding). z .rows) told) refl $ move ! (0 ∷ 8 ∷ 6 ∷ []) $
+        use3 W (later (‵ (Arr (mem T.the-row) 4 .lies zs l₇ 0))) (slice-back 𝓤 H A W T.the-row (ν ∷ []) γ zs 4 l₇ 0) $ await ! tt $ fsplit ! $
+        feqL ! (λ long. use1 W (‵ (row T.the-row fullShare zs l₇ 0)) (whole-out 𝓤 H A W T.the-row zs l₇ 0) $
+        move ! (2 ∷ 1 ∷ []) $ join ! $ move ! (2 ∷ 0 ∷ []) $ join ! $ move ! (2 ∷ 0 ∷ []) $ join ! $ move ! (2 ∷ 0 ∷ []) $ join ! $ move ! (1 ∷ []) $
+        -- [the row; the tokens; what the areas own; _16; …; _8; …; that _7 dies; _6; …; _0; …]
         to-local ! (bin ! (of-local ! 22 refl) (lit ! tt) (record { fits = fits k within })) (init ! 7 refl (tt, record { fits = fits k within })) $
         to-local ! (addr ! (from ! (stop !))) (init ! 5 refl (tt, tt)) $
         to-local ! (bin ! (of-local ! 5 refl) (of-local ! 7 refl) tt) (init ! 3 refl (tt, tt)) $
-        rewrite ! 3 (λ (p : ℕ). ‵ (fat fullShare tyPtr l₁₅ 0 (vptr l₆ p))) (sym (place-is 16 0 k)) refl $
+        rewrite ! 3 (λ (p : ℕ). ‵ (fat fullShare tyPtr l₁₆ 0 (vptr l₇ p))) (sym (place-is 16 0 k)) refl $
         elem-out ! T.the-row (Is T.the-row) (shows 𝓤 H A T.the-row) (LL.vals T.the-type T′.the-laws) (LL.tells T.the-type T′.the-laws)
-        fullShare zs k blank l₆ 0 (here long) (λ is.
+        fullShare zs k blank l₇ 0 (here long) (λ is.
         to-local ! (of-opd ! (load ! (from ! (hop ! (look ! 5 refl) (stop !))) (look-raw ! 0 refl))) (store ! 15 refl (typed elem is)) $
         to-local ! (of-opd ! (of-local ! 15 refl)) (init ! 19 refl (typed elem is)) $
         to-local ! (agg ! (and-then ! (of-local ! 21 refl) (and-then ! (of-local ! 19 refl) (no-more !))))
-        (init ! 34 refl (LL.lawful K.the-type K′.the-laws 𝓤 H A W .typed seen _ (is-seen u is-u is) .0)) $
-        elem-back ! T.the-row fullShare zs k blank (val elem ∷ []) l₆ 0 (here long) $ use1 W (‵ (froom (tyArray T′.mir 4) l₆ 0))
-        (freed 𝓤 H A W T.the-row tt 4 l₆ 0 (LL.vals T.the-type T′.the-laws) (LL.tells T.the-type T′.the-laws) zs long) $
-        -- [room for _6; the tokens; what the areas own; _15; …; _7; …; that _6 dies; _5; …; _0; …]
-        returns ! (look ! 32 refl) $ leaves ! 32 33 refl refl $ leaves ! 30 31 refl refl $ leaves ! 28 29 refl refl $ leaves ! 26 27 refl refl $
-        leaves ! 24 25 refl refl $ leaves ! 22 23 refl refl $ move ! (0 ∷ 21 ∷ []) $ free1 ! $ leaves ! 18 19 refl refl $ leaves ! 16 17 refl refl $
-        leaves ! 14 15 refl refl $ leaves ! 12 13 refl refl $ leaves ! 10 11 refl refl $ leaves ! 8 9 refl refl $ leaves ! 6 7 refl refl $
-        leaves ! 4 5 refl refl $ leaves ! 2 3 refl refl $ free0 ! $ by ! (exits (is-seen u is-u is)))))))))))))))))))))))))))
+        (init ! 36 refl (LL.lawful K.the-type K′.the-laws 𝓤 H A W .typed seen _ (is-seen u is-u is) .0)) $
+        elem-back ! T.the-row fullShare zs k blank (val elem ∷ []) l₇ 0 (here long) $ use1 W (‵ (froom (tyArray T′.mir 4) l₇ 0))
+        (freed 𝓤 H A W T.the-row tt 4 l₇ 0 (LL.vals T.the-type T′.the-laws) (LL.tells T.the-type T′.the-laws) zs long) $
+        -- [room for _7; the tokens; what the areas own; _16; …; _8; …; that _7 dies; _6; …; _0; …]
+        returns ! (look ! 34 refl) $ leaves ! 34 35 refl refl $ leaves ! 32 33 refl refl $ leaves ! 30 31 refl refl $ leaves ! 28 29 refl refl $
+        leaves ! 26 27 refl refl $ leaves ! 24 25 refl refl $ leaves ! 22 23 refl refl $ move ! (0 ∷ 21 ∷ []) $ free1 ! $ leaves ! 18 19 refl refl $
+        leaves ! 16 17 refl refl $ leaves ! 14 15 refl refl $ leaves ! 12 13 refl refl $ leaves ! 10 11 refl refl $ leaves ! 8 9 refl refl $
+        leaves ! 6 7 refl refl $ leaves ! 4 5 refl refl $ leaves ! 2 3 refl refl $ free0 ! $ by ! (exits (is-seen u is-u is))))))))))))))))))))))))))))
       where
         typed : (x : Finding) → Is T.the-row x (val x ∷ []) → Holds (hasTy T′.mir (val x)) × WT (val x)
         typed x is = LL.lawful T.the-type T′.the-laws 𝓤 H A W .typed x _ is .0
@@ -321,23 +333,27 @@ module _ {M : Type 1} (𝓤 : URA M) (H : Heap 𝓤) (A : Atoms 𝓤) (W : Given
       → Walks 𝓤 H A outer.ended stayed (Run C Λ) (outer.clauses 𝓤 H A mem₀ run)
   outer-walks C Λ fm known =
       walked 𝓤 H A outer.ended stayed (outer.clauses 𝓤 H A mem₀ run) (Run C Λ)
-      (λ κs. (EL.vals P.the-type P′.the-laws, (slice-vals, (slice-vals, (slice-vals, (uint-vals w64, tt))))))
+      (λ κs. (EL.vals P.the-type P′.the-laws, (slice-vals, (slice-vals, (slice-vals, (slice-vals, (uint-vals w64, tt)))))))
       (λ κs. (
         EL.tells P.the-type P′.the-laws,
-        (tells-bytes 0 (κs .0), (tells-bytes 1 (κs .1 .0), (tells-bytes 2 (κs .1 .1 .0), (uint-tells w64, tt)))),
+        (tells-of u8 0 (κs .0), (tells-of u8 1 (κs .1 .0), (tells-of u8 2 (κs .1 .1 .0), (tells-of u32 3 (κs .1 .1 .1 .0), (uint-tells w64, tt))))),
       ))
-      (λ κs qs bounds a g are. needs 𝓤 (a .1 .1 .1 .1 .0 < 4) _ (λ within. walk 𝓤 H A W mem₀ run (κs .0) (κs .1 .0) (κs .1 .1 .0) (qs .0) (qs .1 .0)
-      (qs .1 .1 .0) (a .0) (are .0) (a .1 .0) (a .1 .1 .0) (a .1 .1 .1 .0) (a .1 .1 .1 .1 .0) (are .1 .1 .1 .1 .0 .1) within C Λ fm known
-      (are .1 .0 .0 .1) (are .1 .1 .0 .0 .1) (are .1 .1 .1 .0 .0 .1)))
+      (λ κs qs bounds a g are. needs 𝓤 (a .1 .1 .1 .1 .1 .0 < 4) _ (λ within.
+      walk 𝓤 H A W mem₀ run (κs .0) (κs .1 .0) (κs .1 .1 .0) (κs .1 .1 .1 .0) (qs .0) (qs .1 .0) (qs .1 .1 .0) (qs .1 .1 .1 .0)
+      (a .0) (are .0) (a .1 .0) (a .1 .1 .0) (a .1 .1 .1 .0) (a .1 .1 .1 .1 .0) (a .1 .1 .1 .1 .1 .0) (are .1 .1 .1 .1 .1 .0 .1) within C Λ fm known
+      (are .1 .0 .0 .1) (are .1 .1 .0 .0 .1) (are .1 .1 .1 .0 .0 .1) (are .1 .1 .1 .1 .0 .0 .1)))
 
   outer-meets : (𝓣 : Tables 𝓤 H) → Triple 𝓤 (𝓣 .C #image·inspect·inspect) (Inspect 𝓤 H A mem₀ run)
       → Meets 𝓤 H A outer.signature (Run (𝓣 .C) (𝓣 .Λ)) (outer.spec 𝓤 H A mem₀ run)
   outer-meets 𝓣 known =
-      let profile-goes = goes-dropped 𝓤 H A W 3 ProfileS yes (λ κs x f. refl) in
-      let number-goes = goes-none 𝓤 H A W 3 (λ _. usize) yes (λ κs x f. refl) in
-      walk-meets 𝓤 H A outer.ended stayed W
-      (profile-goes, (goes-bytes 𝓤 H A W 3 0 tt, (goes-bytes 𝓤 H A W 3 1 tt, (goes-bytes 𝓤 H A W 3 2 tt, (number-goes, tt))))) (outer.clauses 𝓤 H A mem₀ run)
-      (Run (𝓣 .C) (𝓣 .Λ)) (WpFn-mono 𝓤 H (W .laws) 𝓣 code.function) (outer-walks (𝓣 .C) (𝓣 .Λ) (fmOf 𝓤 H (W .laws) 𝓣) known)
+      let profile-goes = goes-dropped 𝓤 H A W 4 ProfileS yes (λ κs x f. refl) in
+      let number-goes = goes-none 𝓤 H A W 4 (λ _. usize) yes (λ κs x f. refl) in
+      walk-meets 𝓤 H A outer.ended stayed W (
+        profile-goes,
+        (goes-of 𝓤 H A W u8 4 0 tt, (goes-of 𝓤 H A W u8 4 1 tt, (goes-of 𝓤 H A W u8 4 2 tt, (goes-of 𝓤 H A W u32 4 3 tt, (number-goes, tt))))),
+      )
+      (outer.clauses 𝓤 H A mem₀ run) (Run (𝓣 .C) (𝓣 .Λ)) (WpFn-mono 𝓤 H (W .laws) 𝓣 code.function)
+      (outer-walks (𝓣 .C) (𝓣 .Λ) (fmOf 𝓤 H (W .laws) 𝓣) known)
 
 pub look-spec : {M : Type 1} → stated.statement M
 unfolding code.routine tablesOf

@@ -1,25 +1,39 @@
--- The names are counted in cleared marks, and the chain is walked over them. Assumes nothing.
+-- The chain is walked over the counts, where the list is not refused. Assumes nothing.
 use mathlib.Core.Path.{sym, ap, _∙_}
-use Prim.Native.Nat.{ℕ}
 use borrow.Author.Needs.{needs}
-use lib.ListN.{replicate}
-use Rattle.chain.specs.Marks.{namesAfter}
+use Rattle.chain.specs.Marks.{countsIn}
+use Rattle.chain.specs.declared.marks.Marked.the-variants as marked
 use Rattle.chain.proofs.Counts.{marks-whole}
+use Rattle.chain.proofs.Markings.{marked-long, marked-stray, marked-well}
 use Rattle.chain.proofs.marks.mark.Statement.{statement}
 use Rattle.chain.proofs.marks.mark.Tie as tie
 
-count-names-requires : tie.Need-count-names-requires
-count-names-requires c κs =
-    let s = c .before .before .before .before .before .before .before in
-    (s .pre .0, (s .pre .1 .0, c .before .before .before .clear .ensures ∙ ap (λ (n : ℕ). replicate n 0) (s .pre .1 .1)))
-
 returns : tie.Need-returns
 returns c =
-    let w = c .before .before in
-    let k = w .before .before .before .before in
-    let a = k .before .before .before .before .before .before .before .before .args in
-    let h = w .walk-from .ensures (namesAfter (a .g) (a .records .now) (a .g .count)) (k .count-names .ensures) in
-    (h .met, (h .ending, h .marked ∙ sym (marks-whole (a .g) (a .records .now))))
+    let a = c .before .before .before .before .before .args in
+    (sym (marked-long (a .g) (a .records .now) (a .magazines .now) (c .if1 .taken)), tt)
+
+returns-2 : tie.Need-returns-2
+returns-2 c =
+    let t = c .before .before .before .before in
+    let k = t .before .before .before in
+    let f = k .before .before in
+    let a = f .before .before .before .before .before .args in
+    let e = k .count-words .ensures in
+    let h = c .before .before .walk-from .ensures (countsIn (a .g) (a .records .now) (a .magazines .now)) (e .1) in
+    let met = h .met in
+    let ending = h .ending in (
+      (λ x. marked.Chain (record { met = met x; ending = ending x }))
+          ∙ sym (marked-well (a .g) (a .records .now) (a .magazines .now) (f .if1 .left) (sym (e .0) ∙ t .if2 .taken)),
+      h .marked ∙ sym (marks-whole (a .g) (a .records .now) (a .magazines .now)),
+    )
+
+returns-3 : tie.Need-returns-3
+returns-3 c =
+    let k = c .before .before .before in
+    let f = k .before .before in
+    let a = f .before .before .before .before .before .args in
+    (sym (marked-stray (a .g) (a .records .now) (a .magazines .now) (f .if1 .left) (sym (k .count-words .ensures .0) ∙ c .if2 .left)), tt)
 
 pub mark-spec : {M : Type 1} → statement M
-mark-spec = tie.close (tie.spec (λ c κs. search needs) count-names-requires (λ c κs. search needs) (λ c. search needs) returns)
+mark-spec = tie.close (tie.spec returns (λ c κs. search needs) (λ c κs. search needs) (λ c. search needs) returns-2 (λ c. search needs) returns-3)

@@ -10,13 +10,13 @@ use Rattle.image.proofs.inspect.judge_first.Tie as tie
 
 -- there are n of them
 long : (s : tie.Start) → let a = s .args in length (take (a .g .count) (a .marks .now)) ≡ a .g .count
-long s = let a = s .args in length-marks (a .g) (a .records .now) (take (a .g .count) (a .marks .now)) (s .pre .0 .marked)
+long s = let a = s .args in length-marks (a .g) (a .records .now) (a .magazines .now) (take (a .g .count) (a .marks .now)) (s .pre .0 .marked)
 
 pub judge-first-spec : {M : Type 1} → statement M
 judge-first-spec =
     tie.close
     (tie.spec
-    (λ c. sym (long (c .before .before .before .before)))
-    (λ c κs. let p = c .before .before .before .before .pre in (p .0 .opens, (p .1, (p .0 .marked, p .0 .ends))))
+    (λ c. sym (long (c .before .before .before .before .before)))
+    (λ c κs. let p = c .before .before .before .before .before .pre in (p .0 .opens, (p .1, (p .0 .marked, p .0 .ends))))
     (λ c κs. search needs)
     (λ c. c .of .ensures ∙ ap ofTold (c .before .judge-buffer .ensures) ∙ told-back _))

@@ -28,13 +28,22 @@ returns-3 c =
 returns-4 : tie.Need-returns-4
 unfolding lineOf
 returns-4 c =
+    let i = c .before .before .before .before .before in
+    let w = c .before .before .put-field3 .ensures in
+    simp (ne-eqb _ _ (i .before .before .before .if1 .left), ne-eqb _ _ (i .before .before .if2 .left), ne-eqb _ _ (i .before .if3 .left), eq-eqb _ _ (i .if4 .taken))
+    (w .0)
+
+returns-5 : tie.Need-returns-5
+unfolding lineOf
+returns-5 c =
     let i = c .before .before .before .before in
     let w = c .before .before .put-fault .ensures in
-    simp (ne-eqb _ _ (i .before .before .if1 .left), ne-eqb _ _ (i .before .if2 .left), ne-eqb _ _ (i .if3 .left)) w
+    simp (ne-eqb _ _ (i .before .before .before .if1 .left), ne-eqb _ _ (i .before .before .if2 .left), ne-eqb _ _ (i .before .if3 .left), ne-eqb _ _ (i .if4 .left)) w
 
 pub put-verdict-spec : {M : Type 1} → statement M
 put-verdict-spec =
     tie.close
     (tie.spec
     (λ c. search needs) (λ c κs. search needs) (λ c. search needs) returns (λ c. search needs) (λ c κs. search needs) (λ c. search needs)
-    returns-2 (λ c. search needs) (λ c κs. search needs) (λ c. search needs) returns-3 (λ c κs. search needs) (λ c. search needs) returns-4)
+    returns-2 (λ c. search needs) (λ c κs. search needs) (λ c. search needs) returns-3 (λ c. search needs) (λ c κs. search needs) (λ c. search needs)
+    returns-4 (λ c κs. search needs) (λ c. search needs) returns-5)

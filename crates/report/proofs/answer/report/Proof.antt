@@ -1,8 +1,11 @@
 -- An image that opens is reported, and any other is refused as the opening has it. Assumes nothing.
 use mathlib.Core.Path.{sym, _∙_}
 use borrow.Author.Needs.{needs}
+use lib.ListN.{length}
+use Rattle.sheet.specs.Areas.{lent}
 use Rattle.sheet.proofs.Opens.{logged-known}
 use Rattle.report.specs.Answer.{reportOf}
+use Rattle.report.proofs.Reports.{report-opened}
 use Rattle.report.proofs.answer.report.Statement.{statement}
 use Rattle.report.proofs.answer.report.Tie as tie
 
@@ -18,11 +21,13 @@ returns c =
     rw (← o .before .before .open-with-log .ensures, o .opened .given .1)
 
 returns-2 : tie.Need-returns-2
-unfolding reportOf
 returns-2 c =
     let r = c .before .before in
     let o = r .before .before .before in
-    rw (← o .before .before .open-with-log .ensures, o .opened2 .given .1) (r .report-image .ensures)
+    let a = o .before .before .before .before .before .before .before .before .before .args in
+    r .report-image .ensures
+    ∙ sym (report-opened (a .profile) (lent (a .sheet) (a .heap) (a .records)) (a .magazines .now) (length (a .log .now)) (a .output .now) _
+    (sym (o .before .before .open-with-log .ensures) ∙ o .opened2 .given .1))
 
 pub report-spec : {M : Type 1} → statement M
 report-spec =

@@ -13,12 +13,12 @@ part-long n h = length-take-le n (replicate 512 0) h
 
 slice-aggregate-report-marked : tie.Need-slice-aggregate-report-marked
 slice-aggregate-report-marked c =
-    let s = c .before .before .before .before in
+    let s = c .before .before .before .before .before in
     sym (part-long (s .args .g .count) (s .pre .law .sizes .few))
 
 report-marked-requires : tie.Need-report-marked-requires
 report-marked-requires c κs =
-    let s = c .before .before .before .before .before in
+    let s = c .before .before .before .before .before .before in
     (s .pre, part-long (s .args .g .count) (s .pre .law .sizes .few))
 
 pub report-image-spec : {M : Type 1} → statement M

@@ -11,8 +11,8 @@ use Rattle.report.proofs.whole.write_report.Tie as tie
 returns : tie.Need-returns
 returns c =
     let i = c .before .before .before .before in
-    let s = i .before .before .before .before .before .before in
-    let short = report-text-short (image (s .args .g) (s .args .heap .now) (s .args .records .now)) (s .pre .0 .law .sizes) in
+    let s = i .before .before .before .before .before .before .before in
+    let short = report-text-short (image (s .args .g) (s .args .heap .now) (s .args .records .now) (s .args .magazines .now)) (s .pre .0 .law .sizes) in
     room-for-all _ _ _ _ (omega (arith, i .before .longest .ensures, i .if1 .taken, short)) (c .before .before .put-report .ensures)
 
 returns-2 : tie.Need-returns-2

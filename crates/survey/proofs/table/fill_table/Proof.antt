@@ -13,7 +13,7 @@ part-long n h = length-take-le n (replicate 512 0) h
 
 fill-marked-requires : tie.Need-fill-marked-requires
 fill-marked-requires c κs =
-    let s = c .before .before .before .before .before in
+    let s = c .before .before .before .before .before .before in
     (s .pre .0, (part-long (s .args .g .count) (s .pre .0 .law .sizes .few), s .pre .1))
 
 pub fill-table-spec : {M : Type 1} → statement M
@@ -21,5 +21,5 @@ fill-table-spec =
     tie.close
     (tie.spec
     (λ c. search needs)
-    (λ c. let s = c .before .before .before .before in sym (part-long (s .args .g .count) (s .pre .0 .law .sizes .few)))
+    (λ c. let s = c .before .before .before .before .before in sym (part-long (s .args .g .count) (s .pre .0 .law .sizes .few)))
     fill-marked-requires (λ c. search needs) (λ c. search needs))

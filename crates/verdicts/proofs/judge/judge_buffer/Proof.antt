@@ -19,7 +19,9 @@ use Rattle.geometry.proofs.Sheets.{chunk-inside, chunk-length}
 use Rattle.chain.specs.Marks.{namesDigit, namesAfter}
 use Rattle.chain.specs.declared.marks.Digits.{Digits}
 use Rattle.verdicts.specs.Judge.{chainedVerdict, standing, againAt}
-use Rattle.chain.proofs.Counts.{length-marks, marks-names, marks-met}
+use Rattle.chain.specs.Magazines.{listedIn}
+use Rattle.chain.proofs.Counts.{length-marks, marks-names, marks-met, marks-listed}
+use Rattle.verdicts.proofs.Standings.{chained-to-two}
 use Rattle.verdicts.proofs.Tagged.{verdict-none, verdict-other, verdict-one}
 use Rattle.verdicts.proofs.judge.judge_buffer.Statement.{statement}
 use Rattle.verdicts.proofs.judge.judge_buffer.Tie as tie
@@ -27,13 +29,13 @@ use Rattle.verdicts.proofs.judge.judge_buffer.Tie as tie
 -- the image that is judged, and what is known of it from the start
 module _ (s : tie.Start) where
   abbrev judging : Image
-  judging = image (s .args .g) (s .args .heap .now) (s .args .records .now)
+  judging = image (s .args .g) (s .args .heap .now) (s .args .records .now) (s .args .magazines .now)
 
   long : length (s .args .marks .now) ≡ s .args .g .count
-  long = length-marks (s .args .g) (s .args .records .now) (s .args .marks .now) (s .pre .1 .1 .0)
+  long = length-marks (s .args .g) (s .args .records .now) (s .args .magazines .now) (s .args .marks .now) (s .pre .1 .1 .0)
 
   digit : namesDigit (getD (s .args .marks .now) (s .args .i) 0) ≡ namesAfter (s .args .g) (s .args .records .now) (s .args .g .count) (s .args .i)
-  digit = marks-names (s .args .g) (s .args .records .now) (s .args .marks .now) (s .pre .1 .1 .0) (s .args .i) (s .pre .1 .0)
+  digit = marks-names (s .args .g) (s .args .records .now) (s .args .magazines .now) (s .args .marks .now) (s .pre .1 .1 .0) (s .args .i) (s .pre .1 .0)
 
   chunk-lawful : ChunkLength (length (chunkAt judging (s .args .i)))
   chunk-lawful =
@@ -43,7 +45,7 @@ module _ (s : tie.Start) where
       subst ChunkLength (sym (length-part (s .args .heap .now) (chunkPlace g (s .args .i)) (g .chunk) (omega (arith, o .heapLong)))) (chunk-length g (o .law))
 
 abbrev begun : tie.After-read-tag → tie.Start
-begun c = c .before .before .before .before .before .before .before .before .before .before
+begun c = c .before .before .before .before .before .before .before .before .before .before .before
 
 -- the tag that is read is the chunk's
 tag-read : (c : tie.After-read-tag) →
@@ -77,12 +79,12 @@ module _ (c : tie.After-p) where
 returns : tie.Need-returns
 returns c =
     let r = c .before .before .before in
-    let s = r .before .before .before .before .before in
+    let s = r .before .before .before .before .before .before in
     let none = verdict-none (judging s) (s .args .i) (λ e. c .before .if1 .taken (ap (λ (d : Digits). d .names) (r .read .ensures) ∙ digit s ∙ e)) in
     c .tell .ensures ∙ ap toldOf (sym none)
 
 read-tag-requires : tie.Need-read-tag-requires
-read-tag-requires c κs = rw (c .chunk .ensures) (chunk-lawful (c .before .before .before .before .before .before .before .before .before))
+read-tag-requires c κs = rw (c .chunk .ensures) (chunk-lawful (c .before .before .before .before .before .before .before .before .before .before))
 
 buffer-requires : tie.Need-buffer-requires
 buffer-requires c κs =
@@ -135,24 +137,29 @@ returns-4 c =
     let s = start p in
     let g = s .args .g in
     let r = s .args .records .now in
+    let l = s .args .magazines .now in
     let k = p .before .before .before in
     let at = c .before .before .before .before in
     let whole = k .before .chunk .ensures in
     let tag = tag-read k in
     let digits = c .before .before .read2 .ensures in
-    let met = ap (λ (d : Digits). d .met) digits ∙ marks-met g r (s .args .marks .now) (s .pre .1 .1 .0) (index p) (found p .0) in
+    let met = ap (λ (d : Digits). d .met) digits ∙ marks-met g r l (s .args .marks .now) (s .pre .1 .1 .0) (index p) (found p .0) in
     let again = c .before .again-at .ensures ∙ ap (λ (e : Ending). againAt e (index p)) (s .pre .1 .1 .1) in
+    let listed =
+    ap (λ (d : Digits). d .listed) (k .before .before .before .before .before .read .ensures)
+    ∙ marks-listed g r l (s .args .marks .now) (s .pre .1 .1 .0) (s .args .i) (s .pre .1 .0) in
     let one =
     verdict-one (judging s) (s .args .i) (index p) (one-names k) (found p .0)
     (sym (at .before .before .buffer .ensures) ∙ at .if2 .left ∙ at .before .buffer-address .ensures) (found p .1) in
     c .judge-chained .ensures
-    ∙ ap toldOf ((λ x. chainedVerdict (g .format) (whole x) (patternOf (tag x)) (standing (met x) (again x))) ∙ sym one)
+    ∙ ap toldOf ((λ x. chainedVerdict (g .format) (whole x) (patternOf (tag x)) (standing (met x) (again x) (listed x)))
+    ∙ chained-to-two (g .format) _ _ _ _ (listedIn g l (s .args .i)) ∙ sym one)
 
 pub judge-buffer-spec : {M : Type 1} → statement M
 judge-buffer-spec =
     tie.close
     (tie.spec
-    (λ c. let l = long (c .before .before .before .before) in omega (arith, c .before .before .before .before .pre .1 .0))
+    (λ c. let l = long (c .before .before .before .before .before) in omega (arith, c .before .before .before .before .before .pre .1 .0))
     (λ c κs. search needs) (λ c κs. search needs) returns (λ c κs. search needs) read-tag-requires (λ c κs. search needs) (λ c. search needs)
     (λ c κs. search needs) (λ c. search needs) buffer-requires (λ c κs. search needs) (λ c κs. search needs) returns-2
     (λ c. let p = c .before .before .before .before .before in let l = long (start p) in omega (arith, found p .0))

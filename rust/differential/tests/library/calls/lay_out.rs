@@ -267,6 +267,7 @@ fn areas(draft: &Draft, sequence: &mut Sequence) -> Image {
         heap: any_bytes(draft.heap_length, sequence),
         records: any_bytes(draft.record_length, sequence),
         log: Vec::new(),
+        magazines: Vec::new(),
     }
 }
 

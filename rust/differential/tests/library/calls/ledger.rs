@@ -12,6 +12,9 @@ use super::call::{Call, Numbers};
 use super::twin::Twin;
 use crate::expected::expected_profile;
 
+/// "Allocate and free don't use magazines, so demand 3 reads with an empty list."
+const NO_MAGAZINES: &[u32] = &[];
+
 /// What a granted buffer's client has.
 struct Out {
     grant: Grant,
@@ -206,7 +209,8 @@ impl Ledger {
             })
             .collect();
         let mut rows = vec![0; 3 * expected.len()];
-        let found = combgallop::inspect(self.profile(), sheet, heap, records, &mut rows);
+        let profile = self.profile();
+        let found = combgallop::inspect(profile, sheet, heap, records, NO_MAGAZINES, &mut rows);
         let found = found.unwrap_or_else(|refusal| panic!("{refusal}: {}", twin.story));
         let found: Vec<Finding> = found.collect();
         assert_eq!(found, expected, "findings: {}", twin.story);
@@ -230,7 +234,15 @@ impl Ledger {
         let met = self.numbers.count as usize + self.frees - self.allocates;
         expected += &format!("chain {met} end\nfaults 0\n");
         let mut output = vec![0; expected.len()];
-        let answer = combgallop::report(self.profile(), sheet, heap, records, &[], &mut output);
+        let answer = combgallop::report(
+            self.profile(),
+            sheet,
+            heap,
+            records,
+            NO_MAGAZINES,
+            &[],
+            &mut output,
+        );
         assert_eq!(answer, Ok(expected.len()), "report: {}", twin.story);
         let text = String::from_utf8_lossy(&output);
         assert_eq!(text, expected, "{}", twin.story);

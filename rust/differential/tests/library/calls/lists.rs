@@ -80,6 +80,7 @@ fn any_areas(numbers: Numbers, sequence: &mut Sequence) -> Image {
         heap: any_bytes(shape.heap_length(), sequence),
         records: any_bytes(shape.count * record_size(numbers.profile), sequence),
         log: Vec::new(),
+        magazines: Vec::new(),
     }
 }
 
