@@ -62,10 +62,11 @@ stamped-word f r j s i o h =
     let thread = wordBytes f (s .thread) in
     let l : length stamp ≡ 8 = length-bytesOf (f .order) 8 (s .uptime) in
     let m : length thread ≡ 4 = length-bytesOf (f .order) 4 (s .thread) in
+    let least = record-least (f .profile) in
     ap (number (f .order))
-    (part-field thread (sets r (j * recordSize (f .profile) + stampAt) stamp) (recordSize (f .profile)) j threadAt i o 4 (omega (arith, record-least (f .profile)))
-    (omega (arith, record-least (f .profile))) (inl (omega arith))
-    ∙ part-field stamp r (recordSize (f .profile)) j stampAt i o 4 (omega (arith, record-least (f .profile))) (omega (arith, record-least (f .profile))) (inl h))
+    (part-field thread (sets r (j * recordSize (f .profile) + stampAt) stamp) (recordSize (f .profile)) j threadAt i o 4
+    (omega arith) (omega arith) (inl (omega arith))
+    ∙ part-field stamp r (recordSize (f .profile)) j stampAt i o 4 (omega arith) (omega arith) (inl h))
 
 -- ---- the next word
 

@@ -63,7 +63,8 @@ withNext f records j next = sets records (j * recordSize (f .profile) + nextAt) 
 -- K8 (the stamp: timestamp, whose high half is 0 since an uptime is a word, and thread), in record j
 unfoldable pub stamped : Format → List ℕ → ℕ → Stamp → List ℕ
 stamped f records j s =
-    sets (sets records (j * recordSize (f .profile) + stampAt) (bytesOf (f .order) 8 (s .uptime))) (j * recordSize (f .profile) + threadAt) (wordBytes f (s .thread))
+    sets (sets records (j * recordSize (f .profile) + stampAt) (bytesOf (f .order) 8 (s .uptime)))
+    (j * recordSize (f .profile) + threadAt) (wordBytes f (s .thread))
 
 -- K4 (the bytes of a record that is laid out): next at 0, buffer address 4, slab 8, cache 12, and 0 up to its end
 unfoldable pub recordBytes : Format → ℕ → ℕ → ℕ → List ℕ

@@ -139,7 +139,8 @@ pub extern "C" fn cg_show(
     records: &[u8],
     address: u32,
 ) -> u64
-    ensures answer { λ r. ⌜ r ≡ showWord (shownOf (profileIf userland) (before sheet heap records) address) ⌝ }
+    ensures answer { λ r. ⌜ r
+        ≡ showWord (shownOf (profileIf userland) (before sheet heap records) address) ⌝ }
     ensures starts { λ _. ⌜ StartsAt (sheetOf (profileIf userland) (now (sheet .entry)) .«heap_base») address
         (shownOf (profileIf userland) (before sheet heap records) address) ⌝ }
 {

@@ -152,7 +152,8 @@ module _ (f : Format) (records : List ℕ) (base n : ℕ) where
         let a = left-most n seen in
         from-meets (nextWord f records) (placeOf base (recordSize (f .profile)) n) n seen w i z e m
         ∙ ap (meets i)
-        (enough (nextWord f records) (placeOf base (recordSize (f .profile)) n) n within (suc n) n (i ∷ seen) (nextWord f records i) (omega arith) (omega arith))
+        (enough (nextWord f records) (placeOf base (recordSize (f .profile)) n) n within (suc n) n (i ∷ seen) (nextWord f records i)
+        (omega arith) (omega arith))
 
   -- what the rule hands on from step to step holds of every chain
   pub chain-by : (P : List ℕ → ℕ → Chain → Type 0) → Steps (nextWord f records) (placeOf base (recordSize (f .profile)) n) P
@@ -192,7 +193,9 @@ module _ (f : Format) (records : List ℕ) (base n : ℕ) where
   linked-after b (i ∷ l) seen w r d =
       let z : w ≢ 0 = (λ z. b (let e = r .1 .0 in omega arith)) in
       let o = d i in
-      chain-meets seen w i z (place-at base (recordSize (f .profile)) n w i (omega (arith, record-least (f .profile))) (r .0) (r .1 .0)) (omega (arith, occ-here i l))
+      chain-meets seen w i z
+      (place-at base (recordSize (f .profile)) n w i (omega (arith, record-least (f .profile))) (r .0) (r .1 .0))
+      (omega (arith, occ-here i l))
       ∙ ap (meets i) (linked-after b l (i ∷ seen) (nextWord f records i) (r .1 .1) (λ j. let o = d j in omega (arith, occ-cons j i seen, occ-cons j i l)))
 
 -- ---- the chain of a sheet's records
@@ -253,7 +256,8 @@ module _ (g : Sheet) (records : List ℕ) where
       go (Again i) q = chain-again-below i q
 
   -- a list of records, none of them twice, that are linked from the head down to 0 is the chain
-  pub linked-chain : g .«record_base» ≢ 0 → (l : List ℕ) → Linked (nextWord (g .format) records) (g .«record_base») (recordSize (g .format .profile)) (g .count) (g .head) l
+  pub linked-chain : g .«record_base» ≢ 0 → (l : List ℕ)
+      → Linked (nextWord (g .format) records) (g .«record_base») (recordSize (g .format .profile)) (g .count) (g .head) l
       → ((i : ℕ) → occ i l ≤ 1) → chainIn g records ≡ record { met = l; ending = End }
   linked-chain b l r d =
       chain-whole g records

@@ -23,7 +23,8 @@ use Rattle.chain.specs.Walk.{table, toOne, areaOf}
 use Rattle.chain.specs.Pairing.{namers}
 use Rattle.chain.specs.Magazines.{listedIn}
 use Rattle.chain.specs.Marks.{toTwo, namedBy, namesAfter, withListed, Lists, countsIn, marksIn, metDigit, namesDigit, listedDigit, withName, withListing}
-use Rattle.chain.proofs.MetRecords.{occ-cons, occ-append, occ-none, length-table, getD-table, is-table, table-set, one-most, none, length-area, area-at, area-bit}
+use Rattle.chain.proofs.MetRecords.{occ-cons, occ-append, occ-none, one-most, none}
+use Rattle.chain.proofs.MetRecords.{length-table, getD-table, is-table, table-set, length-area, area-at, area-bit}
 
 -- ---- one byte
 
@@ -235,7 +236,9 @@ module _ (g : Sheet) (l : List ℕ) where
     all-hit i e = a ∙ ap (λ (b : Bool). cond all b false) (all-from k (At i) h e)
 
     pub all-miss : bufferOf g (getD l k 0) ≡ Nowhere → AllIf (suc k) false
-    all-miss e = a ∙ ap (λ (b : Bool). cond all b false) (all-from k Nowhere h e) ∙ (elim all as (λ (t : Bool). cond t false false ≡ false) [ true ↦ refl | false ↦ refl ])
+    all-miss e =
+        a ∙ ap (λ (b : Bool). cond all b false) (all-from k Nowhere h e)
+        ∙ (elim all as (λ (t : Bool). cond t false false ≡ false) [ true ↦ refl | false ↦ refl ])
 
   pub all-end : (k : ℕ) (all : Bool) → k ≡ length l → AllIf k all → all ≡ allBuffers g l
   unfolding allBuffers

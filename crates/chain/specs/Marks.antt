@@ -5,7 +5,6 @@ use mathlib.Core.List.{List, []}
 use Prim.Native.Nat.{ℕ, zero, suc, _+_, _*_, _/_, _%_, _<_}
 use lib.Dec.{eqb, ltb}
 use lib.ListN.{length}
-use Rattle.tags.specs.declared.refusal.Refusal.{Refusal}
 use Rattle.sheet.specs.Areas.{byMagazines}
 use Rattle.geometry.specs.Sheet.{bufferAddress}
 use Rattle.geometry.specs.declared.sheet.Sheet.{Sheet}

@@ -136,7 +136,8 @@ pub fn mark(records: &[u8], magazines: &[u32], g: Sheet, marks: &mut [u8]) -> Ma
     requires { ⌜ length (now records) ≡ recordsLength g ⌝ }
     requires { ⌜ length (now marks) ≡ g .count ⌝ }
     ensures marked { λ r. ⌜ r ≡ markedOf g (now (records .entry)) (now (magazines .entry)) ⌝ }
-    ensures marks { λ r. ⌜ MarksIf r (now (marks .exit)) (marksIn g (now (records .entry)) (now (magazines .entry))) ⌝ }
+    ensures marks { λ r. ⌜ MarksIf r (now (marks .exit))
+        (marksIn g (now (records .entry)) (now (magazines .entry))) ⌝ }
 {
     if magazines.len() > g.count {
         return Marked::Refused(Refusal::BadLength);

@@ -24,7 +24,8 @@ use Rattle.tags.proofs.Verdicts.{code-fault}
 use Rattle.chunks.specs.Chunk.{redzone, guard, bufferSize, chunkOf, freeChunk, grantedChunk, lawfulSize, grantSize, clientOffset}
 use Rattle.chunks.specs.Header.{codedSize, requestOf, requestMost, headerRight}
 use Rattle.chunks.proofs.Headers.{right-some}
-use Rattle.chunks.specs.Judge.{byDifference, r1Of, byDecoded, zoneAfter, zoneVerdict, headerVerdict, sizedVerdict, codedVerdict, headedVerdict, allocatedVerdict}
+use Rattle.chunks.specs.Judge.{byDifference, r1Of, byDecoded, zoneAfter}
+use Rattle.chunks.specs.Judge.{zoneVerdict, headerVerdict, sizedVerdict, codedVerdict, headedVerdict, allocatedVerdict}
 use Rattle.tags.specs.declared.format.Format.{Format}
 use Rattle.tags.specs.declared.format.Profile.{Profile}
 use Rattle.tags.specs.declared.size_code.Decoded.{Decoded}

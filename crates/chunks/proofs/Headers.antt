@@ -1,7 +1,6 @@
 -- The laws of the header, over the profile. Assumes nothing.
 use mathlib.Core.Path.{_≡_, refl, sym, ap, _∙_}
-use mathlib.Core.Bool.{Bool, true, _&&_, and-eq-true-iff}
-use mathlib.Core.Logic.{inl, inr}
+use mathlib.Core.Bool.{true, _&&_, and-eq-true-iff}
 use mathlib.Core.List.{List, [], _++_}
 use Prim.Native.Nat.{ℕ, _+_, _-_, _%_, _≤_, _<_}
 use native.Mathlib.Nat.{zero-add}
@@ -11,10 +10,9 @@ use lib.Dec.{eqb, leb}
 use lib.ListN.{length, length-append}
 use lib.Seq.{sets}
 use Rattle.words.specs.Word.{part, number, numberAt}
-use Rattle.words.specs.declared.word.Order.{Order}
 use Rattle.words.proofs.Numbers.{length-bytesOf, number-back}
 use Rattle.words.proofs.Parts.{part-part, part-left, part-right, part-all, sets-next}
-use Rattle.tags.specs.Format.{byProfile, formatOf, wordBytes, wordAt}
+use Rattle.tags.specs.Format.{byProfile, wordBytes, wordAt}
 use Rattle.tags.specs.declared.format.Format.{Format}
 use Rattle.tags.specs.declared.format.Profile.{Profile}
 use Rattle.tags.specs.declared.format.Profile.the-variants.{Kernel, Userland}
@@ -63,7 +61,8 @@ right-some f buffer c some e = go (f .profile) e
     go Userland t = leb-true 9 c (and-eq-true-iff (leb 9 c) _ .0 t .0)
 
 -- a buffer that starts with the bytes of a header has it
-pub right-written : (f : Format) (buffer : List ℕ) (c : ℕ) → part buffer 0 (headerSize (f .profile)) ≡ headerBytes f c → headerSize (f .profile) < c → c ≤ headerSum
+pub right-written : (f : Format) (buffer : List ℕ) (c : ℕ)
+    → part buffer 0 (headerSize (f .profile)) ≡ headerBytes f c → headerSize (f .profile) < c → c ≤ headerSum
     → headerRight f buffer c ≡ true
 unfolding headerRight headerBytes headerSize numberAt
 right-written f buffer c e some most = go (f .profile) e some
@@ -71,7 +70,8 @@ right-written f buffer c e some most = go (f .profile) e some
     word : (at v : ℕ) → at + 4 ≤ 8 → v < 4294967296 → part buffer 0 8 ≡ wordBytes f c ++ wordBytes f (headerSum - c)
         → part (wordBytes f c ++ wordBytes f (headerSum - c)) at 4 ≡ wordBytes f v → wordAt f buffer at ≡ v
     word at v h fits t is =
-        ap (number (f .order)) (ap (λ (x : ℕ). part buffer x 4) (sym (zero-add at)) ∙ sym (part-part buffer 0 8 at 4 h) ∙ ap (λ (x : List ℕ). part x at 4) t ∙ is) ∙ number-back (f .order) 4 v fits
+        let first = ap (λ (x : ℕ). part buffer x 4) (sym (zero-add at)) ∙ sym (part-part buffer 0 8 at 4 h) in
+        ap (number (f .order)) (first ∙ ap (λ (x : List ℕ). part x at 4) t ∙ is) ∙ number-back (f .order) 4 v fits
 
     go : (p : Profile) → part buffer 0 (byProfile p 0 8) ≡ byProfile p [] (wordBytes f c ++ wordBytes f (headerSum - c)) → byProfile p 0 8 < c
         → byProfile p true (leb 9 c && (eqb (wordAt f buffer 0) c && eqb (wordAt f buffer 4) (headerSum - c))) ≡ true

@@ -62,7 +62,8 @@ pub fn show<'a>(
 ) -> &'a [u8]
     ensures bytes { λ r. ⌜ now r
         ≡ shownPart (now (heap .entry)) (shownOf profile (before sheet heap records) address) ⌝ }
-    ensures place { λ r. ⌜ ShownPlace (heap .entry) (shownOf profile (before sheet heap records) address) r ⌝ }
+    ensures place { λ r. ⌜ ShownPlace (heap .entry)
+        (shownOf profile (before sheet heap records) address) r ⌝ }
 {
     let shown = find_client(profile, sheet, heap, records, address);
     match shown {

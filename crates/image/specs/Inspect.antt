@@ -73,4 +73,5 @@ pub record Begins (p : Profile) (a : Areas) (l : List ℕ) (k : ℕ) (b : Begun)
   pub within : countOf b ≤ k
   pub small : countOf b ≤ 4294967295
   pub judges : Judges (a .heap) (a .records) l marks b
-  pub tells : (rows : List Finding) → length rows ≡ k → inspectOf p a l rows ≡ filling (answerOf b) (filled (foundBy (a .heap) (a .records) l b) rows (countOf b))
+  pub tells : (rows : List Finding) → length rows ≡ k
+      → inspectOf p a l rows ≡ filling (answerOf b) (filled (foundBy (a .heap) (a .records) l b) rows (countOf b))

@@ -63,7 +63,8 @@ fn begin(
     marks: &mut Marks,
 ) -> Begun
     requires { ⌜ length (now marks) ≡ countMost ⌝ }
-    ensures { λ r. ⌜ Begins profile (before sheet heap records) (now (magazines .entry)) rows r (now (marks .exit)) ⌝ }
+    ensures { λ r. ⌜ Begins profile (before sheet heap records) (now (magazines .entry)) rows
+        r (now (marks .exit)) ⌝ }
 {
     let opened = opening::open(profile, sheet, heap.len(), records.len());
     match opened {
@@ -123,7 +124,8 @@ fn find(
 ) -> Finding
     requires { ⌜ Judges (now heap) (now records) (now magazines) (now marks) begun ⌝ }
     requires { ⌜ i < countOf begun ⌝ }
-    ensures { λ r. ⌜ r ≡ foundBy (now (heap .entry)) (now (records .entry)) (now (magazines .entry)) begun i ⌝ }
+    ensures { λ r. ⌜ r
+        ≡ foundBy (now (heap .entry)) (now (records .entry)) (now (magazines .entry)) begun i ⌝ }
 {
     match begun {
         Begun::Refused(_) => Finding {

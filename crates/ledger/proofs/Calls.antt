@@ -168,7 +168,8 @@ module _ (g : Sheet) (laid : Laid g) where
     -- ---- show
 
     pub show-out : (j : ℕ) → j < g .count → (o : Entry) → out (bufferAddress g j) ≡ some o
-        → shownOf (g .format .profile) a (bufferAddress g j) ≡ shown.Client (chunkPlace g j) (clientOffset (g .format .profile) (o .grant)) (grantSize (g .size) (o .grant))
+        → shownOf (g .format .profile) a (bufferAddress g j)
+        ≡ shown.Client (chunkPlace g j) (clientOffset (g .format .profile) (o .grant)) (grantSize (g .size) (o .grant))
     unfolding shownOf
     show-out j h o e = rw (opens g laid v, held-out j h o e)
 

@@ -87,11 +87,12 @@ all-hold f (c ∷ cs) e = let both = and-eq-true-iff _ _ .0 e in (holds f c (bot
 
 -- every table of checks that is computed
 computed : (p : Profile) (o : Order) → all (formatOf p o) (tableOf p (formatOf p o)) ≡ true
-unfolding checks userlandChecks listChecks freeWith allocatedWith freshAreas run put layOutPlan layOutOf laidAreas sheetBytes recordBytes flat linkTo part turned number
-    bytesOf lowNumber lowBytes numberAt repeated differenceFrom tagOf patternOf patternWord decodedOf chunkOf freeChunk grantedChunk tagAt ownedVerdict
-    chainedVerdict isFreedTwice isAtRest restVerdict headerSize headerBytes headerRight headerVerdict headedVerdict codedVerdict recordSize rowLatest rowRecord rowUptime considered latestRow freeVerdict allocatedVerdict
-    zoneVerdict sizedVerdict ageOf stamped fieldIs isShort isLong shaped orderNumber sheetOf withHead measured numbered ordered openedOf lawful sizesLawful
-    basesLawful placeOf recordWord takenChunk takenHead takenOf allocatePlan grantedAreas allocateOf
+unfolding checks userlandChecks listChecks freeWith allocatedWith freshAreas run put layOutPlan layOutOf laidAreas sheetBytes
+    recordBytes flat linkTo part turned number bytesOf lowNumber lowBytes numberAt repeated differenceFrom tagOf patternOf patternWord
+    decodedOf chunkOf freeChunk grantedChunk tagAt ownedVerdict chainedVerdict isFreedTwice isAtRest restVerdict headerSize headerBytes
+    headerRight headerVerdict headedVerdict codedVerdict recordSize rowLatest rowRecord rowUptime considered latestRow freeVerdict
+    allocatedVerdict zoneVerdict sizedVerdict ageOf stamped fieldIs isShort isLong shaped orderNumber sheetOf withHead measured numbered
+    ordered openedOf lawful sizesLawful basesLawful placeOf recordWord takenChunk takenHead takenOf allocatePlan grantedAreas allocateOf
 computed Kernel HighFirst = refl
 computed Kernel LowFirst = refl
 computed Userland HighFirst = refl

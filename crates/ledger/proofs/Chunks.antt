@@ -223,7 +223,8 @@ module _ (f : Format) (size a : ℕ) (few : size ≤ 4096) (word : a < 429496729
 
   -- a chunk with the guard at s
   guarded-ends : (s : ℕ) → s ≤ size
-      → Ends f size (guardedChunk f size s (tagOf a state.Allocated)) (zoneAfter f s size) (codeOf s) (tagOf a state.Allocated .t0) (tagOf a state.Allocated .t1)
+      → Ends f size (guardedChunk f size s (tagOf a state.Allocated))
+      (zoneAfter f s size) (codeOf s) (tagOf a state.Allocated .t0) (tagOf a state.Allocated .t1)
   guarded-ends s h = go (ℕ-discrete s size)
     where
       base : Ends f size (filledChunk f size grantFill (codeOf s) (tagOf a state.Allocated))

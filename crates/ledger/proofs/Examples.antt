@@ -110,11 +110,12 @@ Back p o =
     × (answer₀ p o calls₁ (allocate (grant.Sized 8) (stampOf 4 7)) ≡ answer.Value 4096)
 
 evaluated : (p : Profile) (o : Order) → Out p o × Refuses p o × Back p o
-unfolding size₀ second₀ areas₀ state₀ answer₀ calls₀ calls₁ client₀ Out Refuses Back run put layOutPlan layOutOf lawful sizesLawful basesLawful laidAreas
-    sheetBytes recordBytes flat linkTo part turned number bytesOf lowNumber lowBytes numberAt repeated differenceFrom tagOf patternWord patternOf
-    decodedOf chunkOf freeChunk grantedChunk tagAt freeVerdict zoneVerdict sizedVerdict allocatedVerdict headerSize headerBytes headerRight headerVerdict headedVerdict codedVerdict recordSize withNext stamped fieldIs isShort isLong
-    shaped orderNumber sheetOf withHead measured numbered ordered openedOf placeOf recordWord takenChunk takenHead takenOf allocatePlan
-    grantedAreas allocateOf heldChunk heldOf freePlan freedAreas freeOf storePlan storedAreas storeOf
+unfolding size₀ second₀ areas₀ state₀ answer₀ calls₀ calls₁ client₀ Out Refuses Back run put layOutPlan layOutOf lawful sizesLawful
+    basesLawful laidAreas sheetBytes recordBytes flat linkTo part turned number bytesOf lowNumber lowBytes numberAt repeated
+    differenceFrom tagOf patternWord patternOf decodedOf chunkOf freeChunk grantedChunk tagAt freeVerdict zoneVerdict sizedVerdict
+    allocatedVerdict headerSize headerBytes headerRight headerVerdict headedVerdict codedVerdict recordSize withNext stamped fieldIs
+    isShort isLong shaped orderNumber sheetOf withHead measured numbered ordered openedOf placeOf recordWord takenChunk takenHead
+    takenOf allocatePlan grantedAreas allocateOf heldChunk heldOf freePlan freedAreas freeOf storePlan storedAreas storeOf
 evaluated Kernel HighFirst = ((refl, refl, refl, refl), (refl, refl, refl, refl, refl, refl), (refl, refl, refl))
 evaluated Kernel LowFirst = ((refl, refl, refl, refl), (refl, refl, refl, refl, refl, refl), (refl, refl, refl))
 evaluated Userland HighFirst = ((refl, refl, refl, refl), (refl, refl, refl, refl, refl, refl), (refl, refl, refl))

@@ -62,11 +62,13 @@ module _ (g : Sheet) (laid : Laid g) where
   chunk-some = omega (arith, laid .law .sizes .chunks)
 
   -- the first of a linked list, and the word that leads to it
-  pub first-below : (next : ℕ → ℕ) (head j : ℕ) (js : List ℕ) → Linked next (g .«record_base») (recordSize (g .format .profile)) (g .count) head (j ∷ js) → j < g .count
+  pub first-below : (next : ℕ → ℕ) (head j : ℕ) (js : List ℕ)
+      → Linked next (g .«record_base») (recordSize (g .format .profile)) (g .count) head (j ∷ js) → j < g .count
   unfolding Linked
   first-below next head j js l = l .0
 
-  pub first-address : (next : ℕ → ℕ) (head j : ℕ) (js : List ℕ) → Linked next (g .«record_base») (recordSize (g .format .profile)) (g .count) head (j ∷ js) → head ≡ recordAddress g j
+  pub first-address : (next : ℕ → ℕ) (head j : ℕ) (js : List ℕ)
+      → Linked next (g .«record_base») (recordSize (g .format .profile)) (g .count) head (j ∷ js) → head ≡ recordAddress g j
   unfolding Linked
   first-address next head j js l = l .1 .0
 
@@ -80,7 +82,8 @@ module _ (g : Sheet) (laid : Laid g) where
   none-linked next head l = l
 
   -- the head is a word
-  pub head-fits : (next : ℕ → ℕ) (head : ℕ) (js : List ℕ) → Linked next (g .«record_base») (recordSize (g .format .profile)) (g .count) head js → head < 4294967296
+  pub head-fits : (next : ℕ → ℕ) (head : ℕ) (js : List ℕ)
+      → Linked next (g .«record_base») (recordSize (g .format .profile)) (g .count) head js → head < 4294967296
   head-fits next head [] l = omega (arith, none-linked next head l)
   head-fits next head (j ∷ js) l = omega (arith, first-address next head j js l, record-fits j (first-below next head j js l))
 

@@ -59,8 +59,8 @@ module _ (g : Sheet) (laid : Laid g) where
   same-chunk c l j e el h =
       part-written l c (j * g .chunk) (g .chunk) (omega (arith, laid .law .sizes .chunks)) (omega (arith, chunk-inside g (laid .law) j h))
 
-  pub granted-keeps : {head : ℕ} {a : Areas} {out : ℕ → Option Entry} {j : ℕ} {js : List ℕ} (q : Grant) (t : Stamp) → lawfulSize (g .format .profile) (g .size) q ≡ true
-      → Invariant g head a out (j ∷ js)
+  pub granted-keeps : {head : ℕ} {a : Areas} {out : ℕ → Option Entry} {j : ℕ} {js : List ℕ} (q : Grant) (t : Stamp)
+      → lawfulSize (g .format .profile) (g .size) q ≡ true → Invariant g head a out (j ∷ js)
       → Invariant g (nextWord (g .format) (a .records) j) (grantedAreas a q t (pairAt g laid head j))
       (put (bufferAddress g j) (some (fresh (g .format) (g .size) q)) out) js
   unfolding grantedAreas
@@ -76,7 +76,8 @@ module _ (g : Sheet) (laid : Laid g) where
         sheetIs = rw (v .sheetIs) (sheet-head (headed g head) (nextWord (g .format) (a .records) j));
         heapLong = length-sets (a .heap) (j * g .chunk) c ∙ v .heapLong;
         recordsLong = length-stamped (g .format) (a .records) j t ∙ v .recordsLong;
-        linked = linked-same (nextWord (g .format) (a .records)) (nextWord (g .format) r) (g .«record_base») (recordSize (g .format .profile)) (g .count) (nextWord (g .format) (a .records) j) js
+        linked = linked-same (nextWord (g .format) (a .records)) (nextWord (g .format) r)
+            (g .«record_base») (recordSize (g .format .profile)) (g .count) (nextWord (g .format) (a .records) j) js
             (λ i m. sym (stamped-word (g .format) (a .records) j t i nextAt (omega arith)))
             (rest-linked g laid (nextWord (g .format) (a .records)) head j js (v .linked));
         each = each-entry j new out (λ i x. occ i js + outs x ≡ 1)
@@ -120,7 +121,15 @@ module _ (g : Sheet) (laid : Laid g) where
         sheetIs = rw (v .sheetIs) (sheet-head (headed g head) (recordAddress g j));
         heapLong = length-sets (a .heap) (j * g .chunk) c ∙ v .heapLong;
         recordsLong = length-stamped (g .format) before j t ∙ length-withNext (g .format) (a .records) j head ∙ v .recordsLong;
-        linked = (h, (refl, subst (λ (x : ℕ). Linked (nextWord (g .format) r) (g .«record_base») (recordSize (g .format .profile)) (g .count) x chain) (sym leads) kept));
+        linked = (
+          h,
+          (
+            refl,
+            subst (λ (x : ℕ). Linked (nextWord (g .format) r) (g .«record_base») (recordSize (g .format .profile)) (g .count) x chain)
+                (sym leads)
+                kept,
+          ),
+        );
         each = each-entry j none out (λ i x. occ i (j ∷ chain) + outs x ≡ 1)
             (omega (arith, occ-here j chain))
             (λ i k ne. omega (arith, v .each i k, occ-apart i j chain ne));

@@ -1,6 +1,7 @@
 -- The areas as they are laid out have the invariant. Assumes nothing.
 use mathlib.Core.Path.{_≡_, refl, sym, _∙_, subst}
 use mathlib.Core.Bool.{Bool, true, false, cond}
+use mathlib.Core.List.{List}
 use mathlib.Core.Option.{none}
 use Prim.Native.Nat.{ℕ, zero, suc, _+_, _<_}
 use native.Mathlib.Decide.{decLt}
@@ -48,8 +49,12 @@ module _ (g : Sheet) (laid : Laid g) where
       flat-word (g .format) (laidRecord g) (laid-record-long g) (g .count) j bufferAt h (omega (arith, record-least (g .format .profile)))
       ∙ whole-name (g .format) (linkTo g (suc j)) (bufferAddress g j) (g .cache) (omega (arith, buffer-word g (laid .law) j h, chunk-some g laid))
 
-  laid-linked : (i m : ℕ) → i + m ≡ g .count
-      → Linked (nextWord (g .format) (flat (g .count) (laidRecord g))) (g .«record_base») (recordSize (g .format .profile)) (g .count) (linkTo g i) (range i m)
+  -- the records as they are laid out are linked from a word on
+  abbrev LaidLinked : ℕ → List ℕ → Type 0
+  LaidLinked w js =
+      Linked (nextWord (g .format) (flat (g .count) (laidRecord g))) (g .«record_base») (recordSize (g .format .profile)) (g .count) w js
+
+  laid-linked : (i m : ℕ) → i + m ≡ g .count → LaidLinked (linkTo g i) (range i m)
   unfolding Linked range
   laid-linked i zero e = link-out g i (omega arith)
   laid-linked i (suc m) e =
@@ -57,7 +62,7 @@ module _ (g : Sheet) (laid : Laid g) where
         h,
         (
           link-in g i h,
-          subst (λ (x : ℕ). Linked (nextWord (g .format) (flat (g .count) (laidRecord g))) (g .«record_base») (recordSize (g .format .profile)) (g .count) x (range (suc i) m))
+          subst (λ (x : ℕ). LaidLinked x (range (suc i) m))
               (sym (laid-next i h))
               (laid-linked (suc i) m (omega arith)),
         ),
@@ -69,7 +74,7 @@ module _ (g : Sheet) (laid : Laid g) where
     sheetIs = refl;
     heapLong = length-flat (g .chunk) (laidChunk g) (laid-chunk-long g (laid .law)) (g .count);
     recordsLong = length-flat (recordSize (g .format .profile)) (laidRecord g) (laid-record-long g) (g .count);
-    linked = subst (λ (x : ℕ). Linked (nextWord (g .format) (flat (g .count) (laidRecord g))) (g .«record_base») (recordSize (g .format .profile)) (g .count) x (range 0 (g .count)))
+    linked = subst (λ (x : ℕ). LaidLinked x (range 0 (g .count)))
         (link-in g 0 (laid .law .sizes .some) ∙ omega arith)
         (laid-linked 0 (g .count) (omega arith));
     each = λ j h. omega (arith, occ-within 0 (g .count) j (omega arith) (omega arith));

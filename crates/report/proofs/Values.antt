@@ -25,7 +25,8 @@ use Rattle.tags.specs.declared.verdict.Verdict.the-variants.{Free, Whole, Alloc
 use Rattle.tags.proofs.Tags.{decoded-within}
 use Rattle.chunks.specs.Chunk.{bufferSize, freeFill, redzone, guard, tagAt}
 use Rattle.chunks.specs.Header.{headerRight}
-use Rattle.chunks.specs.Judge.{byDifference, byDecoded, r1Of, freeVerdict, zoneVerdict, zoneAfter, sizedVerdict, codedVerdict, headerVerdict, headedVerdict, allocatedVerdict}
+use Rattle.chunks.specs.Judge.{byDifference, byDecoded, r1Of, zoneAfter, freeVerdict}
+use Rattle.chunks.specs.Judge.{zoneVerdict, sizedVerdict, codedVerdict, headerVerdict, headedVerdict, allocatedVerdict}
 use Rattle.geometry.specs.Sheet.{chunkPlace, recordAddress}
 use Rattle.sheet.specs.Areas.{Image, chunkAt}
 use Rattle.chain.specs.Pairing.{ownOf, byOwn}

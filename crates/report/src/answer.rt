@@ -66,7 +66,8 @@ fn report_marked(
     requires { ⌜ Open (length (now heap)) (length (now records)) g ⌝ }
     requires { ⌜ length (now marks) ≡ g .count ⌝ }
     ensures { λ r. ⌜ filling r (now (output .exit))
-        ≡ reportImage (imageListed g (heap .entry) (records .entry) (magazines .entry)) (now (output .entry)) ⌝ }
+        ≡ reportImage (imageListed g (heap .entry) (records .entry) (magazines .entry))
+        (now (output .entry)) ⌝ }
 {
     let marked = marks::mark(records, magazines, g, marks);
     match marked {
@@ -85,7 +86,8 @@ fn report_image(
 ) -> Answer
     requires { ⌜ Open (length (now heap)) (length (now records)) g ⌝ }
     ensures { λ r. ⌜ filling r (now (output .exit))
-        ≡ reportImage (imageListed g (heap .entry) (records .entry) (magazines .entry)) (now (output .entry)) ⌝ }
+        ≡ reportImage (imageListed g (heap .entry) (records .entry) (magazines .entry))
+        (now (output .entry)) ⌝ }
 {
     let mut area = [0u8; limits::MOST_BUFFERS];
     let n = g.count;

@@ -76,7 +76,8 @@ fn put_report(
     requires { ⌜ now marks ≡ marksIn g (now records) (now magazines) ⌝ }
     requires { ⌜ met ≡ length (chainIn g (now records) .met) ⌝ }
     requires { ⌜ ending ≡ chainIn g (now records) .ending ⌝ }
-    ensures { λ r. ⌜ Put output 0 (reportText (imageListed g (heap .entry) (records .entry) (magazines .entry))) r ⌝ }
+    ensures { λ r. ⌜ Put output 0
+        (reportText (imageListed g (heap .entry) (records .entry) (magazines .entry))) r ⌝ }
 {
     let n = g.count;
     let mut rows = [0u32; 3 * BATCH];

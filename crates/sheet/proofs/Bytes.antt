@@ -6,7 +6,7 @@ use Prim.Native.Nat.{ℕ, zero, suc, _+_, _*_, _/_, _%_, _^_, _≤_, _<_}
 use native.Mathlib.Nat.{add-zero, mod-lt}
 use native.Mathlib.Decide.{ℕ-discrete}
 use native.Mathlib.Omega.{arith}
-use borrow.Author.Tests.{eq-eqb, ne-eqb, eqb-true, le-ltb, le-leb}
+use borrow.Author.Tests.{eq-eqb, ne-eqb, eqb-true, le-ltb}
 use lib.Arith.{digits-mod, mod-mul}
 use lib.Dec.{eqb, lit<}
 use lib.ListN.{length, length-append, getD, set}
@@ -15,9 +15,8 @@ use Rattle.words.specs.Word.{part, turned, number, numberAt}
 use Rattle.words.specs.Native.{lowNumber, lowBytes}
 use Rattle.words.specs.declared.word.Order.{Order}
 use Rattle.words.specs.declared.word.Order.the-variants.{HighFirst, LowFirst}
-use Rattle.tags.specs.Format.{formatOf}
 use Rattle.words.proofs.Numbers.{length-bytesOf, number-back}
-use Rattle.words.proofs.Parts.{part-part, part-front, part-right, sets-mid, sets-right, sets-next, sets-three, sets-whole}
+use Rattle.words.proofs.Parts.{part-part, part-front, part-right, sets-mid, sets-right, sets-three, sets-whole}
 use Rattle.sheet.specs.Fields.{Field, shortFields, fields, fieldLength, lengthTo, fieldIs, fieldsFrom, isShort, isLong, shaped, endsRight, sheetOf}
 use Rattle.sheet.specs.Fields.{fieldBytes, field, fieldsBytes, bodiesOf, sheetBytes, shortLength, sheetLength, bodyAt, withHead}
 use Rattle.sheet.specs.Fields.{orderNumber, orderOf, orderLawful, numberOf}
@@ -333,7 +332,8 @@ module _ (g : Sheet) where
       )
 
   -- and the image opens
-  pub sheet-opens : (h r : ℕ) → Fits g → lawful g ≡ true → h ≡ heapLength g → r ≡ recordsLength g → openedOf (g .format .profile) (sheetBytes g) h r ≡ opened.Sheet g
+  pub sheet-opens : (h r : ℕ) → Fits g → lawful g ≡ true → h ≡ heapLength g → r ≡ recordsLength g
+      → openedOf (g .format .profile) (sheetBytes g) h r ≡ opened.Sheet g
   unfolding openedOf ordered numbered measured
   sheet-opens h r f l eh er =
       rw (

@@ -12,7 +12,7 @@ use Rattle.tags.specs.declared.refusal.Refusal.{Refusal}
 use Rattle.tags.specs.declared.refusal.Refusal.the-variants.{ShortOutput}
 use Rattle.tags.specs.declared.refusal.Answer.{Answer}
 use Rattle.tags.specs.declared.refusal.Answer.the-variants.{Value, Refused}
-use Rattle.sheet.specs.Areas.{Areas, Image, openingWithLog, byListed}
+use Rattle.sheet.specs.Areas.{Areas, openingWithLog, byListed}
 use Rattle.chain.specs.Chain.{Chain, chainOf}
 use Rattle.survey.specs.Table.{tableOf}
 

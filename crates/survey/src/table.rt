@@ -33,7 +33,8 @@ fn fill_marked(
     requires { ⌜ length (now marks) ≡ g .count ⌝ }
     requires { ⌜ (room ≡ true → g .count * 3 ≤ length (now rows)) ⌝ }
     ensures { λ r. ⌜ filling r (now (rows .exit))
-        ≡ tabledOf (imageListed g (heap .entry) (records .entry) (magazines .entry)) room (now (rows .entry)) ⌝ }
+        ≡ tabledOf (imageListed g (heap .entry) (records .entry) (magazines .entry)) room
+        (now (rows .entry)) ⌝ }
 {
     let marked = marks::mark(records, magazines, g, marks);
     match marked {
@@ -61,7 +62,8 @@ pub(crate) fn fill_table(
     requires { ⌜ Open (length (now heap)) (length (now records)) g ⌝ }
     requires { ⌜ (room ≡ true → g .count * 3 ≤ length (now rows)) ⌝ }
     ensures { λ r. ⌜ filling r (now (rows .exit))
-        ≡ tabledOf (imageListed g (heap .entry) (records .entry) (magazines .entry)) room (now (rows .entry)) ⌝ }
+        ≡ tabledOf (imageListed g (heap .entry) (records .entry) (magazines .entry)) room
+        (now (rows .entry)) ⌝ }
 {
     let mut area = [0u8; limits::MOST_BUFFERS];
     let n = g.count;

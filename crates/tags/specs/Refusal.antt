@@ -4,7 +4,9 @@ use Rattle.tags.specs.Verdict.{verdictNumber}
 use Rattle.tags.specs.declared.refusal.Refusal.{Refusal}
 use Rattle.tags.specs.declared.refusal.Answer.{Answer}
 use Rattle.tags.specs.declared.refusal.Answer.the-variants.{Value}
-use Rattle.tags.specs.declared.refusal.Refusal.the-variants.{BadSheet, BadNumber, BadLength, NoSuchBuffer, NoRoom, BadSize, Damage, BrokenHead, NotAllocated, OtherGrant, PastClient, ShortOutput, WideStamp, NoThread}
+use Rattle.tags.specs.declared.refusal.Refusal.the-variants.{BadSheet, BadNumber, BadLength, NoSuchBuffer, NoRoom}
+use Rattle.tags.specs.declared.refusal.Refusal.the-variants.{BadSize, Damage, BrokenHead, NotAllocated, OtherGrant}
+use Rattle.tags.specs.declared.refusal.Refusal.the-variants.{PastClient, ShortOutput, WideStamp, NoThread}
 
 -- X1 to X13: the rule's number is the refusal's
 abbrev pub refusalNumber : Refusal → ℕ

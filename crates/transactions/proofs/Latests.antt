@@ -74,7 +74,8 @@ latest-if p a log index time =
         (owned-if g (length (a .heap)) (a .records) log time j o few (own-below _ _ _ _ e))
     go g o f few NotOne e = tt
 
-pub row-known : (p : Profile) (a : Areas) (log : List ℕ) (index time k : ℕ) → latestOf p a log index time ≡ Row k → (k * rowSize + rowSize ≤ length log) × (k < 1024)
+pub row-known : (p : Profile) (a : Areas) (log : List ℕ) (index time k : ℕ) → latestOf p a log index time ≡ Row k
+    → (k * rowSize + rowSize ≤ length log) × (k < 1024)
 row-known p a log index time k e = subst (LatestIf p _ _) e (latest-if p a log index time)
 
 pub record-known : (p : Profile) (a : Areas) (log : List ℕ) (index time j : ℕ) → latestOf p a log index time ≡ Record j

@@ -150,7 +150,8 @@ pub fn judge_buffer(
     requires { ⌜ i < g .count ⌝ }
     requires { ⌜ now marks ≡ marksIn g (now records) (now magazines) ⌝ }
     requires { ⌜ ending ≡ chainIn g (now records) .ending ⌝ }
-    ensures { λ r. ⌜ r ≡ toldOf (verdictOf (imageListed g (heap .entry) (records .entry) (magazines .entry)) i) ⌝ }
+    ensures { λ r. ⌜ r
+        ≡ toldOf (verdictOf (imageListed g (heap .entry) (records .entry) (magazines .entry)) i) ⌝ }
 {
     let digits = marks::read(marks[i]);
     if digits.names != 1 {

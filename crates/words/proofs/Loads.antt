@@ -1,6 +1,6 @@
 -- The laws of numbers in bytes with the lowest first, and what loads and stores come to, each stated once over the width. Assumes nothing.
 use mathlib.Core.Path.{_≡_, refl, sym, ap, _∙_}
-use mathlib.Core.List.{List, [], _∷_, _++_}
+use mathlib.Core.List.{List, _++_}
 use Prim.Native.Nat.{ℕ, zero, suc, _+_, _*_, _/_, _%_, _^_, _≤_, _<_}
 use native.Mathlib.Nat.{pow-succ', one-le-pow, mod-lt, mod-eq-of-lt, zero-add, suc-add, mul-left-comm, div-add-mod'}
 use native.Mathlib.Omega.{arith}

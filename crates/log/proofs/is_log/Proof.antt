@@ -1,6 +1,5 @@
 -- The rows are tested and then the length. Assumes nothing.
 use borrow.Author.Tests.{eq-eqb, ne-eqb}
-use borrow.Author.Needs.{needs}
 use Rattle.log.specs.Log.{logRight}
 use Rattle.log.proofs.is_log.Statement.{statement}
 use Rattle.log.proofs.is_log.Tie as tie

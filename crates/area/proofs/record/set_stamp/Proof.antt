@@ -17,5 +17,6 @@ pub set-stamp-spec : {M : Type 1} → statement M
 set-stamp-spec =
     tie.close
     (tie.spec
-    (λ c κs. search needs) (λ c. search needs) (λ c. search needs) (λ c κs. omega (arith, record-least (c .before .before .before .before .args .f .profile))) (λ c. search needs)
+    (λ c κs. search needs) (λ c. search needs) (λ c. search needs)
+    (λ c κs. omega (arith, record-least (c .before .before .before .before .args .f .profile))) (λ c. search needs)
     (λ c κs. omega (arith, record-least (c .before .before .before .before .before .before .before .before .args .f .profile))) (λ c. search needs) returns)

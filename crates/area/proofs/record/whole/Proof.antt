@@ -3,7 +3,6 @@ use mathlib.Core.Path.{refl}
 use native.Mathlib.Omega.{arith}
 use borrow.Author.Needs.{needs}
 use Rattle.words.proofs.Parts.{part-lent}
-use Rattle.area.specs.Record.{recordSize}
 use Rattle.area.proofs.record.whole.Statement.{statement}
 use Rattle.area.proofs.record.whole.Tie as tie
 

@@ -1,8 +1,8 @@
 -- The names are counted in cleared marks, and the listings above them. Assumes nothing.
-use mathlib.Core.Path.{sym, ap, _∙_}
+use mathlib.Core.Path.{ap, _∙_}
 use Prim.Native.Nat.{ℕ}
 use borrow.Author.Needs.{needs}
-use lib.ListN.{length, replicate}
+use lib.ListN.{replicate}
 use Rattle.chain.specs.Marks.{namesAfter}
 use Rattle.chain.proofs.Counts.{names-small}
 use Rattle.chain.proofs.marks.count_words.Statement.{statement}

@@ -1,5 +1,5 @@
 -- The chain is walked over the counts, where the list is not refused. Assumes nothing.
-use mathlib.Core.Path.{sym, ap, _∙_}
+use mathlib.Core.Path.{sym, _∙_}
 use borrow.Author.Needs.{needs}
 use Rattle.chain.specs.Marks.{countsIn}
 use Rattle.chain.specs.declared.marks.Marked.the-variants as marked

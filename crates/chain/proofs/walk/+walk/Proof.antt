@@ -9,7 +9,7 @@ use borrow.Fn.Kinds.{In}
 use borrow.Fn.PlainCycle.{Measures, is, falls, and}
 use lib.ListN.{length, set, length-set}
 use Rattle.area.specs.Place.{placeAddress, placeOf}
-use Rattle.area.specs.Record.{recordSize, nextAt}
+use Rattle.area.specs.Record.{nextAt}
 use Rattle.tags.specs.Format.{formatOf, orderIf}
 use Rattle.words.proofs.Parts.{below}
 use Rattle.chain.specs.Chain.{meets, chainAfter}

@@ -39,8 +39,9 @@ came : (c : tie.After-walk-lent) (rest : ℕ → ℕ) →
 came c rest e =
     let z = c .before .before in
     let a = z .before .before .before .before .before .before .args in
+    let walked = c .walk-lent .ensures (a .g .format .profile) (z .size .ensures) rest [] e in
     gives-all (a .g) (a .t1 .now) rest (recordSize (a .g .format .profile)) (c .walk-lent .result) (c .walk-lent .last .1 .1 .1 .1 .1 .1 .0)
-    (rw (z .before .is-low .ensures, order-back (a .g .format .order), z .size .ensures) at (c .walk-lent .ensures (a .g .format .profile) (z .size .ensures) rest [] e))
+    (rw (z .before .is-low .ensures, order-back (a .g .format .order), z .size .ensures) at walked)
 
 returns : tie.Need-returns
 returns c rest e =

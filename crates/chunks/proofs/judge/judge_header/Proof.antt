@@ -1,9 +1,8 @@
 -- Any verdict but number 2 stays; at 2 the request is what the coded size has behind a right header. Assumes nothing.
-use mathlib.Core.Path.{sym, ap, _∙_}
+use mathlib.Core.Path.{sym, _∙_}
 use Prim.Native.Nat.{_≤_}
 use native.Mathlib.Omega.{arith}
 use borrow.Author.Needs.{needs}
-use Rattle.tags.specs.Verdict.{toldOf}
 use Rattle.chunks.specs.Header.{headerSize}
 use Rattle.chunks.specs.Judge.{headerVerdict}
 use Rattle.chunks.proofs.Chunks.{headed-two, headed-other}
@@ -21,7 +20,8 @@ returns-2 c v e =
     let s = c .before in
     let i = s .before .before in
     let a = i .before .before .before .before .args in
-    rw (← headed-two (a .f) (a .chunk .now) v (a .t) e (i .before .if1 .left), ← i .is-right .ensures, s .before .if2 .taken, ← s .size .ensures) (c .tell .ensures)
+    let two = headed-two (a .f) (a .chunk .now) v (a .t) e (i .before .if1 .left) in
+    rw (← two, ← i .is-right .ensures, s .before .if2 .taken, ← s .size .ensures) (c .tell .ensures)
 
 returns-3 : tie.Need-returns-3
 unfolding headerVerdict

@@ -1,5 +1,4 @@
 -- A whole grant has no header, and that of a sized one is as long as the profile says. Assumes nothing.
-use mathlib.Core.Path.{_∙_, sym}
 use borrow.Author.Needs.{needs}
 use Rattle.client.proofs.bounds.client_start.Statement.{statement}
 use Rattle.client.proofs.bounds.client_start.Tie as tie

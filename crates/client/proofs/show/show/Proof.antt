@@ -1,6 +1,6 @@
 -- The part is cut where the answer says. Assumes nothing.
 use mathlib.Core.Path.{refl, sym, _∙_}
-use Prim.Native.Nat.{_+_, _-_, _≤_}
+use Prim.Native.Nat.{_+_, _≤_}
 use native.Mathlib.Omega.{arith}
 use borrow.Author.Needs.{needs}
 use lib.ListN.{length}
@@ -10,7 +10,9 @@ use Rattle.client.proofs.show.show.Statement.{statement}
 use Rattle.client.proofs.show.show.Tie as tie
 
 -- the part lies in the heap
-inside : (c : tie.After-shown) → c .shown .given .0 .0 + c .shown .given .0 .1 .0 + c .shown .given .0 .1 .1 .0 ≤ length (c .before .before .before .before .before .before .args .heap .now)
+inside : (c : tie.After-shown)
+    → c .shown .given .0 .0 + c .shown .given .0 .1 .0 + c .shown .given .0 .1 .1 .0
+    ≤ length (c .before .before .before .before .before .before .args .heap .now)
 inside c = shown-known _ _ _ _ _ _ (sym (c .before .before .find-client .ensures) ∙ c .shown .given .1) .inside
 
 returns-2 : tie.Need-returns-2

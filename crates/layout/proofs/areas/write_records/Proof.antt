@@ -27,7 +27,8 @@ loop-again c =
     let l = c .before .before .before .before .before in
     let s = l .before .before in
     let g = s .args .g in
-    (search needs, search needs, flat-more (recordSize (g .format .profile)) (laidRecord g) (laid-record-long g) _ _ (l .loop .inv .2) (c .before .before .write-record .ensures))
+    let w = c .before .before .write-record .ensures in
+    (search needs, search needs, flat-more (recordSize (g .format .profile)) (laidRecord g) (laid-record-long g) _ _ (l .loop .inv .2) w)
 
 returns : tie.Need-returns Inv-loop μ-loop
 unfolding laidAreas

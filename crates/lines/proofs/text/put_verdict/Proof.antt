@@ -30,15 +30,16 @@ unfolding lineOf
 returns-4 c =
     let i = c .before .before .before .before .before in
     let w = c .before .before .put-field3 .ensures in
-    simp (ne-eqb _ _ (i .before .before .before .if1 .left), ne-eqb _ _ (i .before .before .if2 .left), ne-eqb _ _ (i .before .if3 .left), eq-eqb _ _ (i .if4 .taken))
-    (w .0)
+    let one = ne-eqb _ _ (i .before .before .before .if1 .left) in
+    simp (one, ne-eqb _ _ (i .before .before .if2 .left), ne-eqb _ _ (i .before .if3 .left), eq-eqb _ _ (i .if4 .taken)) (w .0)
 
 returns-5 : tie.Need-returns-5
 unfolding lineOf
 returns-5 c =
     let i = c .before .before .before .before in
     let w = c .before .before .put-fault .ensures in
-    simp (ne-eqb _ _ (i .before .before .before .if1 .left), ne-eqb _ _ (i .before .before .if2 .left), ne-eqb _ _ (i .before .if3 .left), ne-eqb _ _ (i .if4 .left)) w
+    let one = ne-eqb _ _ (i .before .before .before .if1 .left) in
+    simp (one, ne-eqb _ _ (i .before .before .if2 .left), ne-eqb _ _ (i .before .if3 .left), ne-eqb _ _ (i .if4 .left)) w
 
 pub put-verdict-spec : {M : Type 1} → statement M
 put-verdict-spec =

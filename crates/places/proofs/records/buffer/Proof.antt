@@ -10,5 +10,7 @@ pub buffer-spec : {M : Type 1} → statement M
 buffer-spec =
     tie.close
     (tie.spec
-    (λ c κs. let s = c .before .before in (record-in (s .args .g) (s .args .j) _ (s .pre .1 .0) (s .pre .1 .1), omega (arith, record-least (s .args .g .format .profile))))
+    (λ c κs.
+    let s = c .before .before in
+    (record-in (s .args .g) (s .args .j) _ (s .pre .1 .0) (s .pre .1 .1), omega (arith, record-least (s .args .g .format .profile))))
     (λ c. search needs))

@@ -5,7 +5,7 @@ use native.Mathlib.Omega.{arith}
 use borrow.Author.Needs.{needs}
 use Rattle.words.specs.Word.{part}
 use Rattle.words.specs.Native.{lowBytes}
-use Rattle.runs.specs.Run.{repeated, Alike}
+use Rattle.runs.specs.Run.{repeated}
 use Rattle.runs.proofs.Eights.{alike-none, same-block, none-of-four}
 use Rattle.runs.proofs.eight.alike_blocks.Statement.{statement}
 use Rattle.runs.proofs.eight.alike_blocks.Tie as tie
@@ -41,5 +41,7 @@ pub alike-blocks-spec : {M : Type 1} → statement M
 alike-blocks-spec =
     tie.close
     (tie.spec
-    Inv-loop μ-loop (λ c κs. search needs) (λ c κs. search needs) (λ c. alike-none _ _ _ _) (λ c. search needs) loop-holds (λ c. search needs) (λ c κs. search needs) (λ c. search needs) (λ c. search needs) (λ c κs. search needs) (λ c. search needs) (λ c. search needs) (λ c κs. search needs) (λ c. search needs) (λ c. search needs) (λ c κs. search needs) (λ c. search needs) (λ c. search needs) loop-again returns-2
-    (λ c. alike-none _ _ _ _))
+    Inv-loop μ-loop (λ c κs. search needs) (λ c κs. search needs) (λ c. alike-none _ _ _ _) (λ c. search needs) loop-holds
+    (λ c. search needs) (λ c κs. search needs) (λ c. search needs) (λ c. search needs) (λ c κs. search needs) (λ c. search needs)
+    (λ c. search needs) (λ c κs. search needs) (λ c. search needs) (λ c. search needs) (λ c κs. search needs) (λ c. search needs)
+    (λ c. search needs) loop-again returns-2 (λ c. alike-none _ _ _ _))

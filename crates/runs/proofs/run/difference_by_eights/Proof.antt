@@ -47,4 +47,6 @@ pub difference-by-eights-spec : {M : Type 1} → statement M
 difference-by-eights-spec =
     tie.close
     (tie.spec
-    Inv-loop μ-loop (λ c κs. search needs) (λ c κs. search needs) (λ c. search needs) (λ c. search needs) (λ c κs. search needs) (λ c. search needs) add-t11 returns (λ c. search needs) (λ c. search needs) (λ c. search needs) loop-again returns-2)
+    Inv-loop μ-loop (λ c κs. search needs) (λ c κs. search needs) (λ c. search needs) (λ c. search needs)
+    (λ c κs. search needs) (λ c. search needs) add-t11 returns (λ c. search needs) (λ c. search needs) (λ c. search needs)
+    loop-again returns-2)

@@ -1,6 +1,5 @@
 -- The first test comes first. Assumes nothing.
 use native.Mathlib.Omega.{arith}
-use borrow.Author.Needs.{needs}
 use borrow.Author.Tests.{le-leb, lt-leb}
 use Rattle.survey.proofs.numbers.has_room.Statement.{statement}
 use Rattle.survey.proofs.numbers.has_room.Tie as tie

@@ -73,7 +73,8 @@ module _ (c : tie.After-p) where
       (index < g .count) × (tagAt (g .format) (chunkAt (judging start) (start .args .i)) .t0 ≡ recordAddress g index)
   found =
       let g = start .args .g in
-      let f = place-found (g .«record_base») (recordSize (g .format .profile)) (g .count) _ index (sym (c .before .before .find-named .ensures) ∙ c .p .given .1) in
+      let at = sym (c .before .before .find-named .ensures) ∙ c .p .given .1 in
+      let f = place-found (g .«record_base») (recordSize (g .format .profile)) (g .count) _ index at in
       (f .0, sym (ap (λ (t : Tag). t .t0) (tag-read (c .before .before .before))) ∙ f .1)
 
 returns : tie.Need-returns

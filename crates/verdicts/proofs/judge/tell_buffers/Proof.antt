@@ -46,8 +46,8 @@ returns : tie.Need-returns Inv-loop μ-loop
 returns c =
     let a = c .before .before .before .before .before .before .before .args in
     let e : c .before .loop .k ≡ a .count = omega arith in
-    subst (λ (k : ℕ). c .before .loop .rows ≡ sets (a .rows .now) 0 (flat k (row (image (a .g) (a .heap .now) (a .records .now) (a .magazines .now)) (a .from)))) e
-    (c .before .loop .inv .2)
+    let v = image (a .g) (a .heap .now) (a .records .now) (a .magazines .now) in
+    subst (λ (k : ℕ). c .before .loop .rows ≡ sets (a .rows .now) 0 (flat k (row v (a .from)))) e (c .before .loop .inv .2)
 
 pub tell-buffers-spec : {M : Type 1} → statement M
 tell-buffers-spec =
