@@ -1,7 +1,5 @@
 //! How a size code is bad.
 
-use std::fmt::{Display, Formatter, Result as Written};
-
 /// In the order in which a code is tested. Under the userland profile the size is the coded
 /// one, which is 8 more than the client asked for.
 #[derive(Clone, Copy, PartialEq, Eq, Debug)]
@@ -21,19 +19,5 @@ impl BadCode {
             BadCode::Zero => 31,
             BadCode::Above => 32,
         }
-    }
-
-    fn meaning(self) -> &'static str {
-        match self {
-            BadCode::Remainder => "it is the code of no size",
-            BadCode::Zero => "it is the code of size zero",
-            BadCode::Above => "it is the code of a size above the buffer's",
-        }
-    }
-}
-
-impl Display for BadCode {
-    fn fmt(&self, out: &mut Formatter) -> Written {
-        out.write_str(self.meaning())
     }
 }

@@ -2,7 +2,8 @@
 
 use std::fmt::{Display, Formatter, Result as Written};
 
-use crate::BadCode;
+use crate::meaning::VERDICTS;
+use crate::{BadCode, Meaning};
 
 /// The kinds of damage.
 #[derive(Clone, Copy, PartialEq, Eq, Debug)]
@@ -58,45 +59,14 @@ impl Fault {
         }
     }
 
-    /// What it means, without how a size code is bad.
-    fn meaning(self) -> &'static str {
-        match self {
-            Fault::NotOneRecord => {
-                "buffer and record are no pair: exactly one record has to name each buffer"
-            }
-            Fault::BadTag => {
-                "the buffer's tag does not name its record, or says neither free nor allocated"
-            }
-            Fault::FreedTwice => {
-                "the buffer was freed twice: the chain of free buffers comes back to it, or it is \
-                 in magazines twice or more, or in one and on the chain"
-            }
-            Fault::OffChain => {
-                "the buffer is tagged free but neither on the chain of free buffers nor in a \
-                 magazine"
-            }
-            Fault::OnChain => {
-                "the buffer is tagged allocated but on the chain of free buffers or in a magazine"
-            }
-            Fault::BadFill => "the buffer was written to after it was freed",
-            Fault::BadRedzone => "the eight bytes behind the free buffer were written to",
-            Fault::BadSizeCode(_) => {
-                "the buffer is allocated but the word that holds its size is damaged"
-            }
-            Fault::Overrun => "the buffer was written to past the end of what was granted",
-            Fault::BadHeader => {
-                "the eight bytes before the client's, which hold the grant's size, are damaged"
-            }
-        }
+    /// What it means: its row of the table.
+    pub fn meaning(self) -> &'static Meaning {
+        Meaning::of(&VERDICTS, self.number())
     }
 }
 
 impl Display for Fault {
     fn fmt(&self, out: &mut Formatter) -> Written {
-        out.write_str(self.meaning())?;
-        match self {
-            Fault::BadSizeCode(how) => write!(out, ": {how}"),
-            _ => Ok(()),
-        }
+        out.write_str(self.meaning().words)
     }
 }

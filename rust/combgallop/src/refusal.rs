@@ -3,7 +3,8 @@
 use std::error::Error;
 use std::fmt::{Display, Formatter, Result as Written};
 
-use crate::Fault;
+use crate::meaning::{BROKEN_HEAD, REFUSALS};
+use crate::{Fault, Meaning};
 
 /// The refusals in the order of their numbers. A broken head is damage of its own kind.
 #[derive(Clone, Copy, PartialEq, Eq, Debug)]
@@ -73,33 +74,12 @@ impl Refusal {
         }
     }
 
-    /// What it means, without the damage met.
-    fn meaning(self) -> &'static str {
+    /// What it means: its row of the table of refusals, or the row of the damage met.
+    pub fn meaning(self) -> &'static Meaning {
         match self {
-            Refusal::BadSheet => {
-                "the sheet has neither form, 52 or 48 bytes with the right tags and lengths, or is \
-                 not the 52 bytes that lay out writes"
-            }
-            Refusal::BadNumber => "a number of the sheet breaks a limit, or its order is none",
-            Refusal::BadLength => {
-                "the heap, the records or the log have a wrong length, or there are more magazine \
-                 words than buffers"
-            }
-            Refusal::NoSuchBuffer => {
-                "no buffer starts at the address or at one of the magazine words, or has the index"
-            }
-            Refusal::NoRoom => "no buffer is left on the chain of free buffers",
-            Refusal::BadSize => {
-                "the size asked for is 0 or above the buffer size, less 8 under the userland profile"
-            }
-            Refusal::Damage(_) => "damage met",
-            Refusal::BrokenHead => "damage met: the chain of free buffers starts at no record",
-            Refusal::NotAllocated => "the buffer is free",
-            Refusal::OtherGrant => "the buffer was granted with another size",
-            Refusal::PastClient => "the bytes pass the end of what was granted",
-            Refusal::ShortOutput => "the output is too short",
-            Refusal::WideStamp => "the record's timestamp needs more than 32 bits",
-            Refusal::NoThread => "the thread is 0, which is nobody's",
+            Refusal::Damage(fault) => fault.meaning(),
+            Refusal::BrokenHead => &BROKEN_HEAD,
+            _ => Meaning::of(&REFUSALS, self.number()),
         }
     }
 }
@@ -110,11 +90,7 @@ impl Display for Refusal {
         if self.detail() != 0 {
             write!(out, ", detail {}", self.detail())?;
         }
-        write!(out, ": {}", self.meaning())?;
-        match self {
-            Refusal::Damage(fault) => write!(out, ": {fault}"),
-            _ => Ok(()),
-        }
+        write!(out, ": {}", self.meaning().words)
     }
 }
 
@@ -188,15 +164,15 @@ mod tests {
         let refused: Box<dyn Error> = Box::new(Refusal::NoRoom);
         assert_eq!(
             refused.to_string(),
-            "refusal 5: no buffer is left on the chain of free buffers"
+            "refusal 5: no buffer is left on the chain"
         );
         assert_eq!(
             Refusal::Damage(Fault::BadFill).to_string(),
-            "refusal 7, detail 25: damage met: the buffer was written to after it was freed"
+            "refusal 7, detail 25: written to after it was freed"
         );
         assert_eq!(
             Refusal::BrokenHead.to_string(),
-            "refusal 7, detail 29: damage met: the chain of free buffers starts at no record"
+            "refusal 7, detail 29: damage was met: the chain starts at no record"
         );
     }
 

@@ -2,7 +2,8 @@
 
 use std::fmt::{Display, Formatter, Result as Written};
 
-use crate::{BadCode, Fault};
+use crate::meaning::VERDICTS;
+use crate::{BadCode, Fault, Meaning};
 
 /// The verdicts in the order of their numbers; a bad size code has one of three. A size is
 /// that which the client asked for, without a header; an offset is that of the first byte
@@ -79,21 +80,40 @@ impl Verdict {
     pub fn fault(self) -> Option<Fault> {
         Fault::from_number(self.number())
     }
+
+    /// What it means: its row of the table.
+    pub fn meaning(self) -> &'static Meaning {
+        Meaning::of(&VERDICTS, self.number())
+    }
+
+    /// The size that the client asked for, of verdict 2.
+    pub fn size(self) -> Option<u32> {
+        match self {
+            Verdict::Allocated(size) => Some(size),
+            _ => None,
+        }
+    }
+
+    /// The offset of the first hurt byte from the buffer's start, of verdicts 25, 26 and 28.
+    pub fn offset(self) -> Option<u32> {
+        match self {
+            Verdict::BadFill(offset) | Verdict::BadRedzone(offset) | Verdict::Overrun(offset) => {
+                Some(offset)
+            }
+            _ => None,
+        }
+    }
 }
 
 impl Display for Verdict {
     fn fmt(&self, out: &mut Formatter) -> Written {
-        if let Some(fault) = self.fault() {
-            write!(out, "fault {}: {fault}", fault.number())?;
+        if self.is_fault() {
+            write!(out, "fault {}: ", self.number())?;
         }
-        match *self {
-            Verdict::Free => write!(out, "free"),
-            Verdict::Whole => write!(out, "allocated whole"),
-            Verdict::Allocated(size) => write!(out, "allocated, size {size}"),
-            Verdict::Cached => write!(out, "free in a magazine"),
-            Verdict::BadFill(offset) | Verdict::BadRedzone(offset) | Verdict::Overrun(offset) => {
-                write!(out, ", first at offset {offset}")
-            }
+        out.write_str(self.meaning().words)?;
+        match (self.size(), self.offset()) {
+            (Some(size), _) => write!(out, ", size {size}"),
+            (_, Some(offset)) => write!(out, ", first at offset {offset}"),
             _ => Ok(()),
         }
     }
@@ -169,17 +189,16 @@ mod tests {
         assert_eq!(Verdict::Cached.to_string(), "free in a magazine");
         assert_eq!(
             Verdict::BadFill(9).to_string(),
-            "fault 25: the buffer was written to after it was freed, first at offset 9"
+            "fault 25: written to after it was freed, first at offset 9"
         );
         assert_eq!(
             Verdict::OnChain.to_string(),
-            "fault 24: the buffer is tagged allocated but on the chain of free buffers or in a \
-             magazine"
+            "fault 24: allocated, but on the chain or in a magazine"
         );
         assert_eq!(
             Verdict::BadSizeCode(BadCode::Zero).to_string(),
-            "fault 31: the buffer is allocated but the word that holds its size is damaged: \
-             it is the code of size zero"
+            "fault 31: allocated, and the word that holds its size was written over: it is the \
+             code of size zero"
         );
     }
 

@@ -13,6 +13,7 @@ pub mod latest;
 pub mod magazines;
 pub mod neighbours;
 mod profile;
+mod relay;
 pub mod samples;
 mod sequence;
 mod sound;

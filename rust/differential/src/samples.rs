@@ -1,8 +1,9 @@
-//! The stored images: the guide's dump, and the guide's corrupt buffer.
+//! The stored images: the guide's dump, the guide's corrupt buffer, and a relay's heap.
 
 use reference::{Order, Profile};
 
 use crate::image::{ADDRESS, GUARD, NEXT};
+use crate::relay::relay;
 use crate::words::word_bytes;
 use crate::{Form, Image, Shape};
 
@@ -98,11 +99,12 @@ pub fn corrupt(form: Form) -> Image {
 }
 
 /// The images of the samples, by name.
-pub fn stored_samples() -> [(&'static str, Image); 3] {
+pub fn stored_samples() -> [(&'static str, Image); 4] {
     [
         ("dump", dump(Form::Short)),
         ("dump_low", dump(Form::Low)),
         ("corrupt", corrupt(Form::Short)),
+        ("relay", relay()),
     ]
 }
 

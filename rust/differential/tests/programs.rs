@@ -97,6 +97,7 @@ fn stored_images() {
         ("dump", "dump"),
         ("dump_low", "dump"),
         ("corrupt", "corrupt"),
+        ("relay", "relay"),
     ] {
         let image = fs::read(samples.join(name).with_extension("image"));
         let text = fs::read_to_string(samples.join(expected).with_extension("expected"));

@@ -32,6 +32,7 @@ fn reports_of_the_images() {
         ("dump", "dump"),
         ("dump_low", "dump"),
         ("corrupt", "corrupt"),
+        ("relay", "relay"),
     ] {
         let found = program(&sample(&format!("{name}.image")));
         assert_eq!(found, sample(&format!("{expected}.expected")), "{name}");

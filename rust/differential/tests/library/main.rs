@@ -8,6 +8,7 @@ mod counts;
 mod crossed;
 mod expected;
 mod forms;
+mod image;
 mod inspect;
 mod latest;
 mod lent;

@@ -1,0 +1,4 @@
+//! The picture of `map --svg`.
+
+mod picture;
+mod xml;
