@@ -9,9 +9,6 @@ use crate::words;
 /// What stands in the chain's line where a buffer's has two spaces and its address.
 const NO_ADDRESS: &str = "            ";
 
-const NO_NOW: &str =
-    "no --now: latest is right if the uptime has not wrapped (it does every 49.7 days)";
-
 pub fn text(found: &Found) -> Result<String, Refusal> {
     let mut text = summary(found, &library_report(found.image)?);
     for buffer in found.faults() {
@@ -19,7 +16,7 @@ pub fn text(found: &Found) -> Result<String, Refusal> {
         text += &part(found, buffer);
     }
     if found.now.is_none() && found.faults().next().is_some() {
-        text += &format!("\n{NO_NOW}\n");
+        text += &format!("\n{}\n", words::NO_NOW);
     }
     Ok(text)
 }

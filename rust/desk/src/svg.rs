@@ -36,7 +36,7 @@ pub fn text(found: &Found) -> String {
     let legend_top = TOP + rows * CELL_HEIGHT + LINE;
     let counts = counts(found);
     let width = (LEFT + columns * CELL_WIDTH + MARGIN).max(LEAST_WIDTH);
-    let height = legend_top + (counts.len() + 1) * LINE + MARGIN;
+    let height = legend_top + (counts.len() + notes(found).len()) * LINE + MARGIN;
     let mut text = format!(
         "<svg xmlns=\"http://www.w3.org/2000/svg\" width=\"{width}\" height=\"{height}\" \
          viewBox=\"0 0 {width} {height}\">\n<style>\n{STYLE}</style>\n\
@@ -157,8 +157,21 @@ fn legend(found: &Found, top: usize) -> String {
         text += &written("legend", MARGIN + CELL_WIDTH + 4, line_top + 13, &words);
         line_top += LINE;
     }
-    let words = "@K: the chain's K-th record is the buffer's; in the corner, the buffer's index";
-    text + &written("small", MARGIN, line_top + 13, words)
+    for note in notes(found) {
+        text += &written("small", MARGIN, line_top + 13, note);
+        line_top += LINE;
+    }
+    text
+}
+
+/// What stands below the legend: every title has a latest transaction.
+fn notes(found: &Found) -> Vec<&'static str> {
+    let mut notes =
+        vec!["@K: the chain's K-th record is the buffer's; in the corner, the buffer's index"];
+    if found.now.is_none() {
+        notes.push(words::NO_NOW);
+    }
+    notes
 }
 
 fn frame(left: usize, top: usize, width: usize, height: usize) -> String {

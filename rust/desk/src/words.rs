@@ -4,6 +4,10 @@ use combgallop::{Chain, Ending, Latest, Refusal, Transaction};
 
 use crate::found::{Buffer, Found};
 
+/// What has to be said beside latest transactions where no uptime is given.
+pub const NO_NOW: &str =
+    "no --now: latest is right if the uptime has not wrapped (it does every 49.7 days)";
+
 /// An address, or a word of the image: all eight digits.
 pub fn address(address: u32) -> String {
     format!("{address:#010x}")

@@ -7,7 +7,7 @@ use differential::{Form, Image, Sequence, Shape, PROFILES};
 use super::xml::{parse, Element};
 use crate::cases::draw_crowd;
 use crate::counts::{profile_name, Counts, PROFILES as PROFILE_NAMES};
-use crate::expected::{cell, map_text, open, transaction_text, Dump};
+use crate::expected::{cell, map_text, open, transaction_text, Dump, NO_NOW};
 use crate::question::{ask, scratch, Question};
 use crate::table;
 
@@ -86,6 +86,8 @@ fn assert_picture(dump: &Dump, text: &str) {
         }
     }
     assert_legend(dump, &root);
+    // Every title has a latest transaction, which without --now may be another.
+    assert_eq!(root.text().contains(NO_NOW), dump.now.is_none());
 }
 
 /// The legend has the words of each verdict that is met, and how often it is.
