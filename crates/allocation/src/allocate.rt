@@ -23,7 +23,7 @@ use tags::verdict;
 use tags::verdict::{Told, Verdict};
 
 // What an allocation will do.
-#[derive(Drop)]
+#[derive(Clone, Copy)]
 pub enum AllocatePlan {
     Take(Spot),
     Refused(Refusal),

@@ -32,7 +32,7 @@ const STAMP: usize = 16;
 const THREAD: usize = 24;
 
 // What a call leaves in the record that it changes: when it was made, and by which thread.
-#[derive(Drop)]
+#[derive(Clone, Copy)]
 pub struct Stamp {
     pub uptime: u32,
     pub thread: u32,

@@ -11,7 +11,7 @@ use tags::refusal::Answer;
 use tags::verdict::Verdict;
 
 // What an inspection answers, and one row of its findings.
-#[derive(Drop)]
+#[derive(Clone, Copy)]
 pub struct Seen {
     pub answer: Answer,
     pub finding: Finding,

@@ -17,6 +17,8 @@
 //     byte, word              the number at an address, or none
 //
 // A call that is refused answers `refused N D`, with the refusal's number and its detail.
+#![tactic(auto)]
+
 use crate::calls::{HeapArea, Log, SheetArea};
 use chunks::chunk::Grant;
 use sheet::fields;

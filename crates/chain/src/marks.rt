@@ -16,7 +16,7 @@ use tags::refusal::Refusal;
 
 // What a byte says: whether the chain meets the record, how many records name the buffer, and how often it is listed, both 0, 1, or 2
 // for more.
-#[derive(Drop)]
+#[derive(Clone, Copy)]
 pub struct Digits {
     pub met: bool,
     pub names: u8,
@@ -24,7 +24,7 @@ pub struct Digits {
 }
 
 // The chain of a marked image, or why its magazine list is refused.
-#[derive(Drop)]
+#[derive(Clone, Copy)]
 pub enum Marked {
     Chain(Walked),
     Refused(Refusal),

@@ -8,7 +8,7 @@ use geometry::sheet::Sheet;
 use places::records;
 
 // A buffer's own record: the one record that names the buffer. Where none or several do, it has none.
-#[derive(Drop)]
+#[derive(Clone, Copy)]
 pub enum Own {
     One(usize),
     NotOne,

@@ -12,7 +12,7 @@ use tags::ending::Ending;
 use tags::format;
 
 // How many records a chain met, and how it ends.
-#[derive(Drop)]
+#[derive(Clone, Copy)]
 pub struct Walked {
     pub met: usize,
     pub ending: Ending,

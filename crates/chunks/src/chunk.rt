@@ -18,7 +18,7 @@ pub const GRANT_FILL: u32 = 0xbaddcafe;
 pub const GUARD: u8 = 0xbb;
 
 // What a buffer is granted as, or asked for: whole, or so many bytes of it.
-#[derive(Drop)]
+#[derive(Clone, Copy)]
 pub enum Grant {
     Whole,
     Sized(u32),

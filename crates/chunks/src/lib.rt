@@ -1,8 +1,9 @@
 // One chunk, given as a slice of buffer size + 16 bytes, and nothing about where it stands.
 //
-// The layer promises: a chunk is written whole, free or granted; a chunk is judged by document 01's rules for its pattern. It
+// The layer promises: a chunk is written whole, free or granted; a chunk is judged by docs/RULES.md's rules for its pattern. It
 // sees no area, no index and no chain, so of the verdicts it gives 21, 25 to 28 and 30, free, whole and allocated; a layer above
 // gives the rest.
+#![tactic(auto)]
 
 // The bytes of a chunk, free and granted.
 pub mod chunk;

@@ -1,7 +1,8 @@
 // The calls on the bytes that a client has of its buffer: store and show.
 //
-// The layer promises: each call answers and writes what document 01 says, or refuses and changes no byte. It touches one chunk
+// The layer promises: each call answers and writes what docs/RULES.md says, or refuses and changes no byte. It touches one chunk
 // and reads one record.
+#![tactic(auto)]
 
 // Where the client's bytes start, and how many they are.
 mod bounds;

@@ -14,7 +14,7 @@ use tags::format::Profile;
 use tags::refusal::Refusal;
 
 // Where the buffer stands in the heap, where in it the client's bytes start, and how many they are; or why they are not shown.
-#[derive(Drop)]
+#[derive(Clone, Copy)]
 pub enum Shown {
     Client(usize, usize, usize),
     Refused(Refusal),

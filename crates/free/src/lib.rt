@@ -1,7 +1,9 @@
 // Free: a plan that only reads, and a commit that cannot fail.
 //
-// The layer promises: the call answers and writes what document 01 says, or refuses and changes no byte. It touches one chunk
+// The layer promises: the call answers and writes what docs/RULES.md says, or refuses and changes no byte. It touches one chunk
 // and one record.
+#![tactic(auto)]
+
 ghost use Rattle.std.specs.Prelude.{◌≡◌, length};
 ghost use Rattle.sheet.specs.Areas.{lent, before, after, by_lengths, result, image_in};
 ghost use Rattle.sheet.specs.Opening.{Open};

@@ -2,6 +2,7 @@
 //
 // The layer promises: where a buffer or a record stands, and what stands at an address, is told by the sheet's numbers. Whether they
 // keep their limits is tested in `lawful`.
+#![tactic(auto)]
 
 // The numbers, and what they say of addresses and places.
 pub mod sheet;

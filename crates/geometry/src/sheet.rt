@@ -12,7 +12,7 @@ use tags::format::Format;
 // chunk, `count` is the number of buffers and of records, `head` the chain's first word. The order is for the machine: a sheet goes from call to
 // call in memory, and fields that stand side by side are copied eight bytes at a time, which waits where they were written one by one.
 // So a number of eight bytes comes first, where a refusal has its own, and others keep apart the pairs that are not needed together.
-#[derive(Drop)]
+#[derive(Clone, Copy)]
 pub struct Sheet {
     pub size: usize,
     pub heap_base: u32,

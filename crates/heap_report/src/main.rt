@@ -1,6 +1,8 @@
 // The report program: one byte, the sheet's length, then sheet, heap, records and log from standard input to the report, or to
 // `refused N`, on standard output. Images are those of the kernel's profile. It reads no more than decides the answer: a sheet that is refused ends it, and of the log
 // one byte more than is lawful.
+#![tactic(auto)]
+
 ghost use Rattle.std.specs.Prelude.{◌≡◌, ◌≤◌, length};
 ghost use Rattle.sheet.specs.Fields.{sheet_length};
 

@@ -1,8 +1,10 @@
 // A buffer that a client holds: found by its address, with its record and its grant.
 //
 // The layer promises: of an open image, the buffer at an address is handed out with its own record and the grant that its chunk was
-// found with, or it is refused by the tests that free, store and show have alike, in document 01's order. It reads one chunk and one
+// found with, or it is refused by the tests that free, store and show have alike, in docs/RULES.md's order. It reads one chunk and one
 // record, and writes nothing.
+#![tactic(auto)]
+
 ghost use Rattle.std.specs.Prelude.{◌≡◌, ◌<◌, length};
 ghost use Rattle.tags.specs.Tag.{pattern_of};
 ghost use Rattle.tags.specs.Verdict.{told_of};
@@ -23,14 +25,14 @@ use tags::verdict;
 use tags::verdict::{Told, Verdict};
 
 // An allocated buffer of an open image with its own record, and its grant.
-#[derive(Drop)]
+#[derive(Clone, Copy)]
 pub struct Holding {
     pub spot: Spot,
     pub grant: Grant,
 }
 
 // A buffer that is held, or why it is not.
-#[derive(Drop)]
+#[derive(Clone, Copy)]
 pub enum Held {
     Buffer(Holding),
     Refused(Refusal),

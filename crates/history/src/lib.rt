@@ -3,6 +3,8 @@
 //
 // The layer promises: a log can have so many bytes, and has so many rows of them, or it cannot; row k, and each word of it that a
 // rule reads, is the one at its place.
+#![tactic(auto)]
+
 ghost use Rattle.std.specs.Prelude.{◌≡◌, ◌+◌, ◌*◌, ◌≤◌, length};
 ghost use Rattle.words.specs.Word.{part};
 ghost use Rattle.area.specs.Place.{PartAt};

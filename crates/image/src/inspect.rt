@@ -26,14 +26,14 @@ use verdicts::judge;
 type Marks = [u8; limits::MOST_BUFFERS];
 
 // What is found of a buffer: its index, and its verdict, with its size or offset.
-#[derive(Drop)]
+#[derive(Clone, Copy)]
 pub struct Finding {
     pub index: usize,
     pub verdict: Verdict,
 }
 
 // What the buffers are judged by beside the marks: the numbers of the image and how its chain ends. Or why none is judged.
-#[derive(Drop)]
+#[derive(Clone, Copy)]
 pub enum Begun {
     Image(Sheet, Ending),
     Refused(Refusal),

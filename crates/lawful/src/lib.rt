@@ -1,6 +1,8 @@
 // Whether the numbers of a sheet keep their limits.
 //
-// The layer promises: the answer is that of document 01's limits. What they are is defined with the sheet's numbers, in `geometry`.
+// The layer promises: the answer is that of docs/RULES.md's limits. What they are is defined with the sheet's numbers, in `geometry`.
+#![tactic(auto)]
+
 ghost use Rattle.std.specs.Prelude.{◌≡◌, ◌≤◌};
 ghost use Rattle.geometry.specs.Limits.{sizes_lawful, bases_lawful, lawful};
 

@@ -2,6 +2,8 @@
 //
 // The layer promises: the three areas of a lawful request are written whole, buffer i paired with record i and the chain
 // from record 0 on in order; any other request is refused, and every lent byte is as before.
+#![tactic(auto)]
+
 ghost use Rattle.std.specs.Prelude.{◌≡◌};
 ghost use Rattle.sheet.specs.Areas.{lent, before, after, by_lengths, result};
 ghost use Rattle.layout.specs.Layout.{laid_areas, lay_out_of, lay_out_plan, Planned};

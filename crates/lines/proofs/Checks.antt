@@ -1,4 +1,4 @@
--- The text computed: document 01's dump case, whole, and three more reports that have every other kind of line. Assumes nothing.
+-- The text computed: docs/RULES.md's dump case, whole, and three more reports that have every other kind of line. Assumes nothing.
 use mathlib.Core.Path.{◌≡◌, refl}
 use mathlib.Core.List.{List, [], ◌∷◌}
 use Prim.Native.Nat.{ℕ}

@@ -22,7 +22,7 @@ const CHAIN: usize = 25;
 const FAULTS: usize = 14;
 
 // How long the text is, where the output has room for it.
-#[derive(Drop)]
+#[derive(Clone, Copy)]
 pub enum Written {
     Length(usize),
     Short,

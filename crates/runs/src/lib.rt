@@ -2,6 +2,7 @@
 //
 // The crate promises: a run is filled with a word again and again, compared with one up to the first byte that differs, or copied
 // to its place. It belongs to the layer of words, and stands apart since a run's loops are the dearest to check there.
+#![tactic(auto)]
 
 // Eights of bytes that are compared at once.
 mod eight;

@@ -11,7 +11,7 @@ use words::word::Order;
 use words::{native, word};
 
 // Where two runs of bytes differ first, counted from their start.
-#[derive(Drop)]
+#[derive(Clone, Copy)]
 pub enum Difference {
     At(usize),
     Nowhere,

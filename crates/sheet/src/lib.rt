@@ -2,6 +2,7 @@
 //
 // The layer promises: the format of the sheet stands here and nowhere else; every call opens the image by the same tests, 1, 2 and
 // 3, and refuses what they refuse.
+#![tactic(auto)]
 
 // The fields: tags, lengths and bodies.
 pub mod fields;

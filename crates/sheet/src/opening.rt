@@ -10,14 +10,14 @@ use tags::format::Profile;
 use tags::refusal::Refusal;
 
 // An image that passed the tests 1 to 3, or why it did not.
-#[derive(Drop)]
+#[derive(Clone, Copy)]
 pub enum Opened {
     Sheet(Sheet),
     Refused(Refusal),
 }
 
 // The lengths of the heap and of the record area, as a sheet has them, or why it has none.
-#[derive(Drop)]
+#[derive(Clone, Copy)]
 pub enum Lengths {
     Areas(usize, usize),
     Refused(Refusal),

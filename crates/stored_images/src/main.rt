@@ -1,6 +1,8 @@
 // The reports of a set of stored images, one behind the other, of either profile and in either order: images of the dump's geometry
 // with no log, from standard input, each behind a byte that names its profile. What it writes is held to the text that the second
 // program makes of the same images.
+#![tactic(auto)]
+
 ghost use Rattle.std.specs.Prelude.{◌≡◌, ◌≤◌, length};
 
 use libc::{STDIN_FILENO, STDOUT_FILENO};

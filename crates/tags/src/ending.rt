@@ -3,7 +3,7 @@ ghost use Rattle.std.specs.Prelude.{◌≡◌};
 ghost use Rattle.tags.specs.Ending.{ending_number};
 
 // How a chain ends: at 0, at a word that is no record's address, or at a record that it has met already.
-#[derive(Drop)]
+#[derive(Clone, Copy)]
 pub enum Ending {
     End,
     Broken,

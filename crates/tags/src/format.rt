@@ -6,13 +6,13 @@ ghost use Rattle.tags.specs.Format.{profile_if, order_if, format_if, is_low};
 use words::word::Order;
 
 // Whose rules an image keeps: those of the kernel's allocator, or those of the one in userland. An image does not say it.
-#[derive(Drop)]
+#[derive(Clone, Copy)]
 pub enum Profile {
     Kernel,
     Userland,
 }
 
-#[derive(Drop)]
+#[derive(Clone, Copy)]
 pub struct Format {
     pub profile: Profile,
     pub order: Order,

@@ -1,7 +1,8 @@
 // What a chunk's words can say, the tag and the size code; and all that is told by a number: verdicts, refusals, a chain's ending.
 //
 // The layer promises: a tag made of a record's address and a state has that state's pattern; a size code gives its size back;
-// each verdict, refusal and ending has document 01's number and value.
+// each verdict, refusal and ending has docs/RULES.md's number and value.
+#![tactic(auto)]
 
 // The verdicts and their numbers.
 pub mod verdict;

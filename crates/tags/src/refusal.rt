@@ -6,7 +6,7 @@ use crate::verdict;
 use crate::verdict::Verdict;
 
 // The rules' refusals, in the order of their numbers. A broken head is damage of its own kind.
-#[derive(Drop)]
+#[derive(Clone, Copy)]
 pub enum Refusal {
     BadSheet,
     BadNumber,
@@ -25,7 +25,7 @@ pub enum Refusal {
 }
 
 // What a call answers: a number, which is 0 where there is nothing to tell, or why it is refused.
-#[derive(Drop)]
+#[derive(Clone, Copy)]
 pub enum Answer {
     Value(u32),
     Refused(Refusal),

@@ -4,7 +4,7 @@ ghost use Rattle.tags.specs.SizeCode.{code_of, decoded_of};
 
 // How a word is no size code, in the order in which that is tested: its remainder is wrong; with a right one its size is zero, or
 // above the buffer's.
-#[derive(Drop)]
+#[derive(Clone, Copy)]
 pub enum BadCode {
     Remainder,
     Zero,
@@ -12,7 +12,7 @@ pub enum BadCode {
 }
 
 // What a code says.
-#[derive(Drop)]
+#[derive(Clone, Copy)]
 pub enum Decoded {
     Size(u32),
     Bad(BadCode),

@@ -3,21 +3,21 @@ ghost use Rattle.std.specs.Prelude.{◌≡◌};
 ghost use Rattle.tags.specs.Tag.{tag_of, pattern_of, is_free, is_allocated};
 
 // What a tag is made for.
-#[derive(Drop)]
+#[derive(Clone, Copy)]
 pub enum State {
     Free,
     Allocated,
 }
 
 // What a tag that was read says.
-#[derive(Drop)]
+#[derive(Clone, Copy)]
 pub enum Pattern {
     Free,
     Allocated,
     Neither,
 }
 
-#[derive(Drop)]
+#[derive(Clone, Copy)]
 pub struct Tag {
     pub t0: u32,
     pub t1: u32,

@@ -6,7 +6,7 @@ use crate::size_code::BadCode;
 
 // The rules' verdicts, in the order of their numbers; a bad size code has one of three, by how it is bad. A size is that of the
 // grant; an offset is that of the first byte that differs, from the buffer's start.
-#[derive(Drop)]
+#[derive(Clone, Copy)]
 pub enum Verdict {
     Free,
     Whole,
@@ -25,7 +25,7 @@ pub enum Verdict {
 }
 
 // A verdict as numbers: its own, and its size or offset, 0 where it carries none.
-#[derive(Drop)]
+#[derive(Clone, Copy)]
 pub struct Told {
     pub number: u32,
     pub value: u32,

@@ -24,14 +24,14 @@ use words::age;
 const WORD_VALUES: u64 = 4294967296;
 
 // What is latest so far: a row, or no row and so the record; and its age.
-#[derive(Drop)]
+#[derive(Clone, Copy)]
 pub struct Best {
     pub row: Place,
     pub age: u32,
 }
 
 // Where the latest transaction stands: a row of the log or a record, or why there is none.
-#[derive(Drop)]
+#[derive(Clone, Copy)]
 pub enum Transaction {
     Row(usize),
     Record(usize),

@@ -27,7 +27,7 @@ use tags::verdict::{Told, Verdict};
 
 // What the chain says of a buffer's own record, whether it is met and whether the chain is "again" at it; and how often the buffer is
 // listed, 0, 1, or 2 for more.
-#[derive(Drop)]
+#[derive(Clone, Copy)]
 pub struct Standing {
     pub met: bool,
     pub again: bool,

@@ -2,6 +2,7 @@
 //
 // The layer promises: a buffer's verdict is that of the first rule that holds. What a chunk says is for the layer of tags below, what
 // the chain and the records say for `chain`.
+#![tactic(auto)]
 
 // The verdict on a buffer.
 pub mod judge;

@@ -2,20 +2,22 @@
 // functions over the struct only make it or take it apart; `word_in` and `byte_in` read. A caller that holds the bytes and the
 // base by themselves asks `read_word` or `read_byte`. A word is read with the highest byte first: a window knows no image, and
 // who asks turns the word into the order of its image.
+#![tactic(auto)]
+
 ghost use Rattle.std.specs.Prelude.{◌≡◌};
 ghost use Rattle.window.specs.Window.{word_in, byte_in};
 
 use words::word;
 use words::word::Order;
 
-#[derive(Drop)]
+#[derive(Clone, Copy)]
 pub struct Window<'a> {
     pub base: u32,
     pub bytes: &'a [u8],
 }
 
 // What stands at an address, as a number: a word or a byte that lies whole in the window, or none.
-#[derive(Drop)]
+#[derive(Clone, Copy)]
 pub enum Word {
     At(u32),
     NoWord,

@@ -4,6 +4,7 @@
 // number and no others; an age is a difference modulo 2^32. Which byte comes first stands in `turned` of specs/Word.antt, and
 // in the code in `turn4`, `turn8` and `reordered` of `word`, over the swaps of `native`. The other half of the layer of words,
 // runs of bytes, is the crate `runs`.
+#![tactic(auto)]
 
 // Numbers as the machine loads and stores them.
 pub mod native;

@@ -9,7 +9,7 @@ ghost use Rattle.words.specs.declared.word.Order.TheVariants.{HighFirst};
 use crate::native;
 
 // Which byte of a number comes first.
-#[derive(Drop)]
+#[derive(Clone, Copy)]
 pub enum Order {
     HighFirst,
     LowFirst,
