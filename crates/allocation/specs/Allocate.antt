@@ -17,7 +17,7 @@ use Rattle.chunks.specs.declared.chunk.Grant.{Grant}
 use Rattle.area.specs.Place.{by_place}
 use Rattle.area.specs.Record.{stamped, address_word, next_word}
 use Rattle.area.specs.declared.record.Stamp.{Stamp}
-use Rattle.sheet.specs.Areas.{Areas, areas, Result, result, refused_with, Image, opening, by_image, by_somebody, chunk_at}
+use Rattle.sheet.specs.Areas.{Areas, areas, Result, outcome, refused_with, Image, opening, by_image, by_somebody, chunk_at}
 use Rattle.sheet.specs.Fields.{with_head}
 use Rattle.geometry.specs.Sheet.{buffer_of, record_of}
 use Rattle.places.specs.Spot.{spot, chunk_start, buffer_start, Within}
@@ -65,7 +65,7 @@ granted_areas a q s p =
 
 -- K5 (allocate answers the buffer's address), E1 (a refusal): by its plan
 abbrev pub allocate_result : Areas → Grant → Stamp → AllocatePlan → Result Answer
-allocate_result a q s (Take p) = result (answer.Value (buffer_start p)) (granted_areas a q s p)
+allocate_result a q s (Take p) = outcome (answer.Value (buffer_start p)) (granted_areas a q s p)
 allocate_result a q s (Refused why) = refused_with (answer.Refused why) a
 
 -- K5, K6, E5 (allocate)

@@ -3,7 +3,7 @@ ghost use Rattle.std.specs.Prelude.{◌≡◌, length};
 ghost use Rattle.tags.specs.Verdict.{told_of};
 ghost use Rattle.tags.specs.declared.verdict.Verdict.{Verdict};
 ghost use Rattle.chunks.specs.Chunk.{lawful_size};
-ghost use Rattle.sheet.specs.Areas.{lent, before, after, by_lengths, result, image_in};
+ghost use Rattle.sheet.specs.Areas.{areas, by_lengths, outcome, image_in};
 ghost use Rattle.geometry.specs.Limits.{Lawful};
 ghost use Rattle.sheet.specs.Opening.{Open};
 ghost use Rattle.allocation.specs.Allocate.{if_free, taken_chunk, taken_head, taken_of, allocate_plan, Takes, granted_areas, allocate_of};
@@ -31,7 +31,7 @@ pub enum AllocatePlan {
 
 // Whether a request is of lawful size.
 fn lawful_size(p: Profile, grant: Grant, size: usize) -> bool
-    ensures* { λ r. ⌜ r ≡ lawful_size p size grant ⌝ }
+    ensures { result ≡ lawful_size p size grant }
 {
     match grant {
         Grant::Whole => true,
@@ -46,7 +46,7 @@ fn lawful_size(p: Profile, grant: Grant, size: usize) -> bool
 
 // A chunk that is found free is taken, and any other verdict refuses.
 fn if_free(t: Told, p: Spot) -> AllocatePlan
-    ensures* { λ r. ⌜ ((v : Verdict) → t ≡ told_of v → r ≡ if_free v p) ⌝ }
+    ensures { ((v : Verdict) → t ≡ told_of v → result ≡ if_free v p) }
 {
     if t.number == 0 {
         return AllocatePlan::Take(p);
@@ -58,7 +58,7 @@ fn if_free(t: Told, p: Spot) -> AllocatePlan
 fn take_chunk(chunk: &[u8], p: Spot) -> AllocatePlan
     requires chunk_len { length chunk.now ≡ p.sheet.chunk }
     requires lawful { Lawful p.sheet }
-    ensures* { λ r. ⌜ r ≡ taken_chunk chunk.now p ⌝ }
+    ensures { result ≡ taken_chunk chunk.now p }
 {
     let g = p.sheet;
     let f = g.format;
@@ -78,7 +78,7 @@ fn take_chunk(chunk: &[u8], p: Spot) -> AllocatePlan
 // The step before it: the head must be a record's address, and that record's word a buffer's.
 fn take_head(heap: &[u8], records: &[u8], g: Sheet) -> AllocatePlan
     requires { Open (length heap.now) (length records.now) g }
-    ensures* { λ r. ⌜ r ≡ taken_head (image_in g heap.entry records.entry) ⌝ }
+    ensures { result ≡ taken_head (image_in g heap.now records.now) }
 {
     let head = g.find_record(g.head);
     let Place::At(own) = head else {
@@ -99,7 +99,7 @@ fn take_head(heap: &[u8], records: &[u8], g: Sheet) -> AllocatePlan
 // What an allocation of an open image will do.
 fn take(heap: &[u8], records: &[u8], g: Sheet, grant: Grant) -> AllocatePlan
     requires { Open (length heap.now) (length records.now) g }
-    ensures* { λ r. ⌜ r ≡ taken_of (image_in g heap.entry records.entry) grant ⌝ }
+    ensures { result ≡ taken_of (image_in g heap.now records.now) grant }
 {
     let f = g.format;
     let p = f.profile;
@@ -121,7 +121,7 @@ fn plan(
     grant: Grant,
     thread: u32,
 ) -> AllocatePlan
-    ensures* { λ r. ⌜ r ≡ allocate_plan profile (before sheet heap records) grant thread ⌝ }
+    ensures { result ≡ allocate_plan profile (areas sheet.now heap.now records.now) grant thread }
 {
     let opened = opening::open(profile, sheet, heap.len(), records.len());
     match opened {
@@ -144,8 +144,8 @@ fn commit(
     stamp: Stamp,
     p: Spot,
 )
-    requires { by_lengths Takes (lent sheet heap records) grant p }
-    ensures* { λ _. ⌜ after sheet heap records ≡ granted_areas (before sheet heap records) grant stamp p ⌝ }
+    requires { by_lengths Takes (areas sheet.old heap.old records.old) grant p }
+    ensures { areas sheet.new heap.new records.new ≡ granted_areas (areas sheet.old heap.old records.old) grant stamp p }
 {
     let g = p.sheet;
     let next = records::next(records, g, p.own);
@@ -163,8 +163,8 @@ pub fn allocate(
     grant: Grant,
     stamp: Stamp,
 ) -> Answer
-    ensures* { λ r. ⌜ result r (after sheet heap records)
-        ≡ allocate_of profile (before sheet heap records) grant stamp ⌝ }
+    ensures { outcome result (areas sheet.new heap.new records.new)
+        ≡ allocate_of profile (areas sheet.old heap.old records.old) grant stamp }
 {
     let planned = plan(profile, sheet, heap, records, grant, stamp.thread);
     match planned {

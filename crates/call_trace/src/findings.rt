@@ -1,7 +1,7 @@
 // An inspection of an image into a row of four findings: one more than the traced image has buffers, so that a row past the last
 // is seen to stay.
 ghost use Rattle.std.specs.Prelude.{◌≡◌, ◌<◌};
-ghost use Rattle.sheet.specs.Areas.{before};
+ghost use Rattle.sheet.specs.Areas.{areas};
 ghost use Rattle.call_trace.specs.Findings.{seen_of};
 
 use image::inspect;
@@ -27,7 +27,7 @@ pub(crate) fn look(
     k: usize,
 ) -> Seen
     requires { k < 4 }
-    ensures { result ≡ seen_of profile (before sheet heap records) magazines.now k }
+    ensures { result ≡ seen_of profile (areas sheet.now heap.now records.now) magazines.now k }
 {
     let mut rows = [Finding {
         index: 9,

@@ -2,7 +2,7 @@
 ghost use Rattle.std.specs.Prelude.{◌≡◌};
 ghost use Rattle.tags.specs.Format.{profile_if, format_if};
 ghost use Rattle.area.specs.Record.{stamp_of};
-ghost use Rattle.sheet.specs.Areas.{before, after, result, answered};
+ghost use Rattle.sheet.specs.Areas.{areas, outcome, answered};
 ghost use Rattle.layout.specs.Layout.{lay_out_of};
 ghost use Rattle.allocation.specs.Allocate.{allocate_of};
 ghost use Rattle.free.specs.Free.{free_of};
@@ -22,7 +22,7 @@ use tags::format::Format;
 
 // What is asked for: where it is the whole buffer, the size is not read.
 fn grant(whole: bool, size: u32) -> Grant
-    ensures* { λ r. ⌜ r ≡ grant_of whole size ⌝ }
+    ensures { result ≡ grant_of whole size }
 {
     if whole {
         return Grant::Whole;
@@ -44,10 +44,10 @@ pub extern "C" fn cg_lay_out(
     heap: &mut [u8],
     records: &mut [u8],
 ) -> u64
-    ensures* { λ r. ⌜ result r (after sheet heap records)
+    ensures { outcome result (areas sheet.new heap.new records.new)
         ≡ answered answer_word
-        (lay_out_of (before sheet heap records) (format_if userland low_first)
-        cache heap_base record_base size count) ⌝ }
+        (lay_out_of (areas sheet.old heap.old records.old) (format_if userland low_first)
+        cache heap_base record_base size count) }
 {
     let f = Format::of(userland, low_first);
     answer::word(layout::lay_out(
@@ -75,10 +75,10 @@ pub extern "C" fn cg_allocate(
     uptime: u32,
     thread: u32,
 ) -> u64
-    ensures* { λ r. ⌜ result r (after sheet heap records)
+    ensures { outcome result (areas sheet.new heap.new records.new)
         ≡ answered answer_word
-        (allocate_of (profile_if userland) (before sheet heap records)
-        (grant_of whole size) (stamp_of uptime thread)) ⌝ }
+        (allocate_of (profile_if userland) (areas sheet.old heap.old records.old)
+        (grant_of whole size) (stamp_of uptime thread)) }
 {
     let profile = format::profile_if(userland);
     let asked = grant(whole, size);
@@ -99,10 +99,10 @@ pub extern "C" fn cg_free(
     uptime: u32,
     thread: u32,
 ) -> u64
-    ensures* { λ r. ⌜ result r (after sheet heap records)
+    ensures { outcome result (areas sheet.new heap.new records.new)
         ≡ answered answer_word
-        (free_of (profile_if userland) (before sheet heap records)
-        address (grant_of whole size) (stamp_of uptime thread)) ⌝ }
+        (free_of (profile_if userland) (areas sheet.old heap.old records.old)
+        address (grant_of whole size) (stamp_of uptime thread)) }
 {
     let profile = format::profile_if(userland);
     let given = grant(whole, size);
@@ -121,9 +121,9 @@ pub extern "C" fn cg_store(
     offset: u32,
     bytes: &[u8],
 ) -> u64
-    ensures* { λ r. ⌜ result r (after sheet heap records)
+    ensures { outcome result (areas sheet.now heap.new records.now)
         ≡ answered answer_word
-        (store_of (profile_if userland) (before sheet heap records) address offset bytes.now) ⌝ }
+        (store_of (profile_if userland) (areas sheet.now heap.old records.now) address offset bytes.now) }
 {
     let profile = format::profile_if(userland);
     answer::word(store::store(profile, sheet, heap, records, address, offset, bytes))
@@ -139,10 +139,10 @@ pub extern "C" fn cg_show(
     records: &[u8],
     address: u32,
 ) -> u64
-    ensures* answer { λ r. ⌜ r
-        ≡ show_word (shown_of (profile_if userland) (before sheet heap records) address) ⌝ }
-    ensures* starts { λ _. ⌜ StartsAt (sheet_of (profile_if userland) sheet.now).heap_base address
-        (shown_of (profile_if userland) (before sheet heap records) address) ⌝ }
+    ensures answer { result
+        ≡ show_word (shown_of (profile_if userland) (areas sheet.now heap.now records.now) address) }
+    ensures starts { StartsAt (sheet_of (profile_if userland) sheet.now).heap_base address
+        (shown_of (profile_if userland) (areas sheet.now heap.now records.now) address) }
 {
     let profile = format::profile_if(userland);
     let c = show::find_client(profile, sheet, heap, records, address);

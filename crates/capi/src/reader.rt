@@ -2,7 +2,7 @@
 ghost use Rattle.std.specs.Prelude.{◌≡◌, length};
 ghost use Rattle.tags.specs.Filling.{filling, told};
 ghost use Rattle.tags.specs.Format.{profile_if};
-ghost use Rattle.sheet.specs.Areas.{before};
+ghost use Rattle.sheet.specs.Areas.{areas};
 ghost use Rattle.survey.specs.Table.{tabulate_of};
 ghost use Rattle.survey.specs.Numbers.{numbering, survey_numbers_of};
 ghost use Rattle.transactions.specs.Latest.{latest_of};
@@ -52,7 +52,7 @@ pub extern "C" fn cg_inspect(
     rows: &mut [u32],
 ) -> u64
     ensures { filling result rows.new
-        ≡ told answer_word (tabulate_of (profile_if userland) (before sheet heap records) magazines.now
+        ≡ told answer_word (tabulate_of (profile_if userland) (areas sheet.now heap.now records.now) magazines.now
         rows.old) }
 {
     let profile = format::profile_if(userland);
@@ -73,7 +73,7 @@ pub extern "C" fn cg_survey(
     chain: &mut [u32],
 ) -> u64
     ensures { numbering result rows.new chain.new
-        ≡ survey_word (survey_numbers_of (profile_if userland) (before sheet heap records) magazines.now
+        ≡ survey_word (survey_numbers_of (profile_if userland) (areas sheet.now heap.now records.now) magazines.now
         (length log.now) rows.old chain.old) }
 {
     let profile = format::profile_if(userland);
@@ -92,7 +92,7 @@ pub extern "C" fn cg_latest(
     time: u32,
 ) -> u64
     ensures { result ≡ latest_word
-        (latest_of (profile_if userland) (before sheet heap records) log.now index time) }
+        (latest_of (profile_if userland) (areas sheet.now heap.now records.now) log.now index time) }
 {
     let profile = format::profile_if(userland);
     let t = latest::find_latest(profile, sheet, heap, records, log, index, time);
@@ -115,7 +115,7 @@ pub extern "C" fn cg_report(
     output: &mut [u8],
 ) -> u64
     ensures { filling result output.new
-        ≡ told answer_word (report_of (profile_if userland) (before sheet heap records) magazines.now
+        ≡ told answer_word (report_of (profile_if userland) (areas sheet.now heap.now records.now) magazines.now
         (length log.now) output.old) }
 {
     let profile = format::profile_if(userland);

@@ -6,7 +6,7 @@ use Rattle.tags.specs.declared.format.Profile.{Profile}
 use Rattle.tags.specs.declared.refusal.Refusal.TheVariants.{PastClient}
 use Rattle.tags.specs.declared.refusal.Answer.{Answer}
 use Rattle.tags.specs.declared.refusal.Answer.TheVariants.{Refused}
-use Rattle.sheet.specs.Areas.{Areas, areas, Result, result, refused_with, opening, by_image}
+use Rattle.sheet.specs.Areas.{Areas, areas, Result, outcome, refused_with, opening, by_image}
 use Rattle.held.specs.Held.{held_of}
 use Rattle.held.specs.declared.Holding.{Holding}
 use Rattle.held.specs.declared.Held.{Held}
@@ -28,7 +28,7 @@ stored_areas a offset bytes p = areas a.sheet (sets a.heap (client_at p + offset
 
 -- K9 (store), E1 (a refusal): by its plan
 abbrev pub store_result : Areas → ℕ → List ℕ → Held → Result Answer
-store_result a offset bytes (held.Buffer p) = result done (stored_areas a offset bytes p)
+store_result a offset bytes (held.Buffer p) = outcome done (stored_areas a offset bytes p)
 store_result a offset bytes (held.Refused why) = refused_with (Refused why) a
 
 -- K9, E6 (store)

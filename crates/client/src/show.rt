@@ -1,6 +1,6 @@
 // Show: the client's own bytes, as a part of the heap.
 ghost use Rattle.std.specs.Prelude.{◌≡◌, length};
-ghost use Rattle.sheet.specs.Areas.{before, image_in};
+ghost use Rattle.sheet.specs.Areas.{areas, image_in};
 ghost use Rattle.sheet.specs.Opening.{Open};
 ghost use Rattle.held.specs.Held.{held_of};
 ghost use Rattle.client.specs.Show.{show_result, shown_of, shown_part, ShownPlace};
@@ -23,7 +23,7 @@ pub enum Shown {
 // Finds the client's bytes of the buffer at an address of an open image.
 fn locate(heap: &[u8], records: &[u8], g: Sheet, address: u32) -> Shown
     requires { Open (length heap.now) (length records.now) g }
-    ensures { result ≡ show_result (held_of (image_in g heap.entry records.entry) address) }
+    ensures { result ≡ show_result (held_of (image_in g heap.now records.now) address) }
 {
     let held = held::hold(heap, records, g, address);
     match held {
@@ -44,7 +44,7 @@ pub fn find_client(
     records: &[u8],
     address: u32,
 ) -> Shown
-    ensures { result ≡ shown_of profile (before sheet heap records) address }
+    ensures { result ≡ shown_of profile (areas sheet.now heap.now records.now) address }
 {
     let opened = opening::open(profile, sheet, heap.len(), records.len());
     match opened {
@@ -62,9 +62,9 @@ pub fn show<'a>(
     address: u32,
 ) -> &'a [u8]
     ensures bytes { result.now
-        ≡ shown_part heap.now (shown_of profile (before sheet heap records) address) }
+        ≡ shown_part heap.now (shown_of profile (areas sheet.now heap.now records.now) address) }
     ensures place { ShownPlace heap.entry
-        (shown_of profile (before sheet heap records) address) result }
+        (shown_of profile (areas sheet.now heap.now records.now) address) result }
 {
     let shown = find_client(profile, sheet, heap, records, address);
     match shown {

@@ -1,6 +1,6 @@
 // Store: a plan that only reads, and a commit that cannot fail.
 ghost use Rattle.std.specs.Prelude.{◌≡◌, length};
-ghost use Rattle.sheet.specs.Areas.{before, after, result, image_in};
+ghost use Rattle.sheet.specs.Areas.{areas, outcome, image_in};
 ghost use Rattle.sheet.specs.Opening.{Open};
 ghost use Rattle.held.specs.Held.{held_of};
 ghost use Rattle.client.specs.Store.{store_test, store_plan, store_of};
@@ -17,7 +17,7 @@ use tags::refusal::{Answer, Refusal};
 // The buffer of an open image that a store of so many bytes at an offset writes to, or why it does not.
 fn fit(heap: &[u8], records: &[u8], g: Sheet, address: u32, offset: u32, len: usize) -> Held
     requires { Open (length heap.now) (length records.now) g }
-    ensures* { λ r. ⌜ r ≡ store_test offset len (held_of (image_in g heap.entry records.entry) address) ⌝ }
+    ensures { result ≡ store_test offset len (held_of (image_in g heap.now records.now) address) }
 {
     let held = held::hold(heap, records, g, address);
     match held {
@@ -46,7 +46,7 @@ fn plan(
     offset: u32,
     len: usize,
 ) -> Held
-    ensures* { λ r. ⌜ r ≡ store_plan profile (before sheet heap records) address offset len ⌝ }
+    ensures { result ≡ store_plan profile (areas sheet.now heap.now records.now) address offset len }
 {
     let opened = opening::open(profile, sheet, heap.len(), records.len());
     match opened {
@@ -65,8 +65,8 @@ pub fn store(
     offset: u32,
     bytes: &[u8],
 ) -> Answer
-    ensures* { λ r. ⌜ result r (after sheet heap records)
-        ≡ store_of profile (before sheet heap records) address offset bytes.now ⌝ }
+    ensures { outcome result (areas sheet.now heap.new records.now)
+        ≡ store_of profile (areas sheet.now heap.old records.now) address offset bytes.now }
 {
     let planned = plan(profile, sheet, heap, records, address, offset, bytes.len());
     match planned {

@@ -11,7 +11,7 @@ use Rattle.chunks.specs.declared.chunk.Grant.{Grant}
 use Rattle.chunks.specs.declared.chunk.Grant.TheVariants.{Whole, Sized}
 use Rattle.area.specs.Record.{with_next, stamped}
 use Rattle.area.specs.declared.record.Stamp.{Stamp}
-use Rattle.sheet.specs.Areas.{Areas, areas, Result, result, refused_with, opening, by_image, by_somebody}
+use Rattle.sheet.specs.Areas.{Areas, areas, Result, outcome, refused_with, opening, by_image, by_somebody}
 use Rattle.sheet.specs.Fields.{with_head}
 use Rattle.places.specs.Spot.{chunk_start, record_start}
 use Rattle.places.specs.declared.spot.Spot.{Spot}
@@ -45,7 +45,7 @@ freed_areas a s p =
 
 -- K7 (free), E1 (a refusal): by its plan
 abbrev pub free_result : Areas → Stamp → Held → Result Answer
-free_result a s (held.Buffer p) = result done (freed_areas a s p.spot)
+free_result a s (held.Buffer p) = outcome done (freed_areas a s p.spot)
 free_result a s (held.Refused why) = refused_with (Refused why) a
 
 -- K7, E6 (free)

@@ -5,7 +5,7 @@
 #![tactic(auto)]
 
 ghost use Rattle.std.specs.Prelude.{◌≡◌, length};
-ghost use Rattle.sheet.specs.Areas.{lent, before, after, by_lengths, result, image_in};
+ghost use Rattle.sheet.specs.Areas.{areas, by_lengths, outcome, image_in};
 ghost use Rattle.sheet.specs.Opening.{Open};
 ghost use Rattle.places.specs.Spot.{Within};
 ghost use Rattle.held.specs.Held.{held_of};
@@ -24,7 +24,7 @@ use tags::refusal::{Answer, Refusal};
 
 // Whether two grants are the same size, or whole both.
 fn same_grant(a: Grant, b: Grant) -> bool
-    ensures* { λ r. ⌜ r ≡ same_grant a b ⌝ }
+    ensures { result ≡ same_grant a b }
 {
     match a {
         Grant::Whole => match b {
@@ -41,7 +41,7 @@ fn same_grant(a: Grant, b: Grant) -> bool
 // The buffer of an open image that a free takes back, or why it does not.
 fn take_back(heap: &[u8], records: &[u8], g: Sheet, address: u32, grant: Grant) -> Held
     requires { Open (length heap.now) (length records.now) g }
-    ensures* { λ r. ⌜ r ≡ free_test grant (held_of (image_in g heap.entry records.entry) address) ⌝ }
+    ensures { result ≡ free_test grant (held_of (image_in g heap.now records.now) address) }
 {
     let held = held::hold(heap, records, g, address);
     match held {
@@ -66,7 +66,7 @@ fn plan(
     grant: Grant,
     thread: u32,
 ) -> Held
-    ensures* { λ r. ⌜ r ≡ free_plan profile (before sheet heap records) address grant thread ⌝ }
+    ensures { result ≡ free_plan profile (areas sheet.now heap.now records.now) address grant thread }
 {
     let opened = opening::open(profile, sheet, heap.len(), records.len());
     match opened {
@@ -82,8 +82,8 @@ fn plan(
 
 // Writes what a free changes: the chunk, the record's next word, stamp and thread, and the head.
 fn commit(sheet: &mut [u8], heap: &mut [u8], records: &mut [u8], stamp: Stamp, p: Spot)
-    requires { by_lengths Within (lent sheet heap records) p }
-    ensures* { λ _. ⌜ after sheet heap records ≡ freed_areas (before sheet heap records) stamp p ⌝ }
+    requires { by_lengths Within (areas sheet.old heap.old records.old) p }
+    ensures { areas sheet.new heap.new records.new ≡ freed_areas (areas sheet.old heap.old records.old) stamp p }
 {
     let g = p.sheet;
     let record_at = g.record_address(p.own);
@@ -103,8 +103,8 @@ pub fn free(
     grant: Grant,
     stamp: Stamp,
 ) -> Answer
-    ensures* { λ r. ⌜ result r (after sheet heap records)
-        ≡ free_of profile (before sheet heap records) address grant stamp ⌝ }
+    ensures { outcome result (areas sheet.new heap.new records.new)
+        ≡ free_of profile (areas sheet.old heap.old records.old) address grant stamp }
 {
     let planned = plan(profile, sheet, heap, records, address, grant, stamp.thread);
     match planned {

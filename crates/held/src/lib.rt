@@ -84,7 +84,7 @@ fn held_by(chunk: &[u8], spot: Spot) -> Held
 fn held_chunk(heap: &[u8], records: &[u8], g: Sheet, address: u32, buffer: usize) -> Held
     requires fact { Open (length heap.now) (length records.now) g }
     requires buffer_lt_count { buffer < g.count }
-    ensures { result ≡ held_chunk (image_in g heap.entry records.entry)
+    ensures { result ≡ held_chunk (image_in g heap.now records.now)
         (chunk_in g heap.now buffer) address buffer }
 {
     let f = g.format;
@@ -112,7 +112,7 @@ fn held_chunk(heap: &[u8], records: &[u8], g: Sheet, address: u32, buffer: usize
 // The buffer at an address of an open image: the tests that free, store and show have alike.
 pub fn hold(heap: &[u8], records: &[u8], g: Sheet, address: u32) -> Held
     requires { Open (length heap.now) (length records.now) g }
-    ensures { result ≡ held_of (image_in g heap.entry records.entry) address }
+    ensures { result ≡ held_of (image_in g heap.now records.now) address }
 {
     let found = g.find_buffer(address);
     match found {

@@ -4,7 +4,7 @@ ghost use Rattle.std.specs.Prelude.{◌≡◌, ◌≤◌, ◌<◌, length, take}
 ghost use Rattle.tags.specs.Filling.{filling};
 ghost use Rattle.geometry.specs.Sheet.{records_length};
 ghost use Rattle.geometry.specs.Limits.{Lawful, count_most};
-ghost use Rattle.sheet.specs.Areas.{before, image_listed};
+ghost use Rattle.sheet.specs.Areas.{areas, image_listed};
 ghost use Rattle.chain.specs.Marks.{marks_in, marked_of, MarksIf};
 ghost use Rattle.verdicts.specs.Judge.{verdict_of};
 ghost use Rattle.image.specs.Inspect.{inspect_of, count_of, answer_of, found_by, JudgesImage, Judges, Begins};
@@ -63,7 +63,7 @@ fn begin(
     marks: &mut Marks,
 ) -> Begun
     requires { length marks.old ≡ count_most }
-    ensures { Begins profile (before sheet heap records) magazines.now rows
+    ensures { Begins profile (areas sheet.now heap.now records.now) magazines.now rows
         result marks.new }
 {
     let opened = opening::open(profile, sheet, heap.len(), records.len());
@@ -107,7 +107,7 @@ fn judge_first(
 ) -> Verdict
     requires judges_image { JudgesImage heap.now records.now magazines.now marks.now g ending }
     requires i_lt_count { i < g.count }
-    ensures { result ≡ verdict_of (image_listed g heap.entry records.entry magazines.entry) i }
+    ensures { result ≡ verdict_of (image_listed g heap.now records.now magazines.now) i }
 {
     let n = g.count;
     verdict::of(judge::judge_buffer(heap, records, magazines, g, i, &marks[..n], ending))
@@ -160,7 +160,7 @@ pub fn inspect(
     rows: &mut [Finding],
 ) -> Answer
     ensures { filling result rows.new
-        ≡ inspect_of profile (before sheet heap records) magazines.now rows.old }
+        ≡ inspect_of profile (areas sheet.now heap.now records.now) magazines.now rows.old }
 {
     let mut marks = [0u8; limits::MOST_BUFFERS];
     let begun = begin(

@@ -3,7 +3,7 @@ use Rattle.std.specs.Prelude.{cond, ◌≡◌, List, ℕ, suc, eqb, ltb, length}
 use Rattle.words.specs.Word.{flat}
 use Rattle.chunks.specs.Chunk.{free_chunk}
 use Rattle.area.specs.Record.{record_bytes}
-use Rattle.sheet.specs.Areas.{Areas, areas, Result, result, refused_with}
+use Rattle.sheet.specs.Areas.{Areas, areas, Result, outcome, refused_with}
 use Rattle.sheet.specs.Fields.{sheet_length, sheet_bytes}
 use Rattle.geometry.specs.Sheet.{laid_sheet, buffer_address, record_address}
 use Rattle.sheet.specs.Opening.{numbered, by_opened, Open}
@@ -40,7 +40,7 @@ lay_out_plan g s h r = cond (eqb s sheet_length) (numbered g h r) (opened.Refuse
 unfoldable pub lay_out_of : Areas → Format → ℕ → ℕ → ℕ → ℕ → ℕ → Result Answer
 lay_out_of a f cache heap records size n =
     by_opened (lay_out_plan (laid_sheet f cache heap records size n) (length a.sheet) (length a.heap) (length a.records))
-    (λ g. result done (laid_areas g))
+    (λ g. outcome done (laid_areas g))
     (λ why. refused_with (Refused why) a)
 
 -- what a plan promises to who carries it out, in areas of s, h and r bytes

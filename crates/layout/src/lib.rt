@@ -5,7 +5,7 @@
 #![tactic(auto)]
 
 ghost use Rattle.std.specs.Prelude.{◌≡◌};
-ghost use Rattle.sheet.specs.Areas.{lent, before, after, by_lengths, result};
+ghost use Rattle.sheet.specs.Areas.{areas, by_lengths, outcome};
 ghost use Rattle.layout.specs.Layout.{laid_areas, lay_out_of, lay_out_plan, Planned};
 
 use geometry::sheet::Sheet;
@@ -19,7 +19,7 @@ mod areas;
 
 // Whether areas of these lengths can be laid out with these numbers: the tests 1, 2 and 3.
 fn plan(g: Sheet, sheet_len: usize, heap_len: usize, records_len: usize) -> Opened
-    ensures* { λ r. ⌜ r ≡ lay_out_plan g sheet_len heap_len records_len ⌝ }
+    ensures { result ≡ lay_out_plan g sheet_len heap_len records_len }
 {
     if sheet_len != fields::LENGTH {
         return Opened::Refused(Refusal::BadSheet);
@@ -29,8 +29,8 @@ fn plan(g: Sheet, sheet_len: usize, heap_len: usize, records_len: usize) -> Open
 
 // Writes all three areas.
 fn commit(sheet: &mut [u8], heap: &mut [u8], records: &mut [u8], g: Sheet)
-    requires { by_lengths Planned (lent sheet heap records) g }
-    ensures* { λ _. ⌜ after sheet heap records ≡ laid_areas g ⌝ }
+    requires { by_lengths Planned (areas sheet.old heap.old records.old) g }
+    ensures { areas sheet.new heap.new records.new ≡ laid_areas g }
 {
     fields::write(sheet, g);
     areas::write_heap(heap, g);
@@ -49,8 +49,8 @@ pub fn lay_out(
     heap: &mut [u8],
     records: &mut [u8],
 ) -> Answer
-    ensures* { λ r. ⌜ result r (after sheet heap records)
-        ≡ lay_out_of (before sheet heap records) f cache heap_base record_base size count ⌝ }
+    ensures { outcome result (areas sheet.new heap.new records.new)
+        ≡ lay_out_of (areas sheet.old heap.old records.old) f cache heap_base record_base size count }
 {
     let asked = Sheet::laid(f, cache, heap_base, record_base, size, count);
     let planned = plan(asked, sheet.len(), heap.len(), records.len());

@@ -17,7 +17,7 @@ use Rattle.chunks.specs.declared.chunk.Grant.TheVariants as grant
 use Rattle.area.specs.Record.{record_size, address_word}
 use Rattle.area.proofs.Records.{record_least}
 use Rattle.area.specs.declared.record.Stamp.{Stamp}
-use Rattle.sheet.specs.Areas.{Areas, result, refused_with, image_of, chunk_in, is_nobody}
+use Rattle.sheet.specs.Areas.{Areas, outcome, refused_with, image_of, chunk_in, is_nobody}
 use Rattle.geometry.specs.Sheet.{headed, chunk_place, buffer_address, record_address, buffer_of, record_of}
 use Rattle.places.specs.Spot.{spot}
 use Rattle.places.specs.declared.spot.Spot.{Spot}
@@ -121,7 +121,7 @@ module _ (g : Sheet) (laid : Laid g) where
 
     pub free-done : (j : ℕ) → j < g.count → (o : Entry) → out (buffer_address g j) ≡ some o → (q : Grant) (t : Stamp) → is_nobody t.thread ≡ false
         → same_grant o.grant q ≡ true
-        → free_of g.format.profile a (buffer_address g j) q t ≡ result done (freed_areas a t (pair_at head j))
+        → free_of g.format.profile a (buffer_address g j) q t ≡ outcome done (freed_areas a t (pair_at head j))
     unfolding free_of free_plan
     free-done j h o e q t n s = rw (opens g laid v, n, held_out j h o e, s)
 
@@ -145,7 +145,7 @@ module _ (g : Sheet) (laid : Laid g) where
 
     pub store-done : (j : ℕ) → j < g.count → (o : Entry) → out (buffer_address g j) ≡ some o → (offset : ℕ) (bytes : List ℕ)
         → leb (offset + length bytes) (grant_size g.size o.grant) ≡ true
-        → store_of g.format.profile a (buffer_address g j) offset bytes ≡ result done (stored_areas a offset bytes (hold head j o.grant))
+        → store_of g.format.profile a (buffer_address g j) offset bytes ≡ outcome done (stored_areas a offset bytes (hold head j o.grant))
     unfolding store_of store_plan
     store-done j h o e offset bytes s = rw (opens g laid v, held_out j h o e, s)
 
@@ -211,7 +211,7 @@ module _ (g : Sheet) (laid : Laid g) where
     taken_in = none_out (out (buffer_address g j)) (omega (arith, v.each j taken_below, occ_here j js))
 
     pub allocate-some : (q : Grant) (t : Stamp) → is_nobody t.thread ≡ false → lawful_size g.format.profile g.size q ≡ true
-        → allocate_of g.format.profile a q t ≡ result (answer.Value (buffer_address g j)) (granted_areas a q t (pair_at head j))
+        → allocate_of g.format.profile a q t ≡ outcome (answer.Value (buffer_address g j)) (granted_areas a q t (pair_at head j))
     unfolding allocate_of allocate_plan taken_of taken_head taken_chunk
     allocate-some q t n e =
         let h = taken_below in

@@ -17,7 +17,7 @@ use Rattle.tags.specs.declared.refusal.Answer.{Answer}
 use Rattle.tags.specs.declared.refusal.Answer.TheVariants.{Refused}
 use Rattle.area.specs.Record.{record_size, next_at, buffer_at, address_word, next_word}
 use Rattle.area.proofs.Records.{record_least, flat_word, whole-next, whole_name}
-use Rattle.sheet.specs.Areas.{Areas, Result, result, refused_with}
+use Rattle.sheet.specs.Areas.{Areas, Result, outcome, refused_with}
 use Rattle.sheet.specs.Fields.{sheet_length}
 use Rattle.geometry.specs.Sheet.{laid_sheet, buffer_address}
 use Rattle.geometry.specs.Limits.{lawful}
@@ -89,7 +89,7 @@ module _ (g : Sheet) (laid : Laid g) where
 
 three : (p q r : Bool) (a : Areas) (g : Sheet) →
     let o = cond p (cond q (cond r (opened.Sheet g) (opened.Refused BadLength)) (opened.Refused BadNumber)) (opened.Refused BadSheet) in
-    let laid = by_opened {A = Result Answer} o (λ s. result done (laid_areas s)) (λ why. refused_with (Refused why) a) in
+    let laid = by_opened {A = Result Answer} o (λ s. outcome done (laid_areas s)) (λ why. refused_with (Refused why) a) in
     laid.answer ≡ done → (q ≡ true) × (laid.areas ≡ laid_areas g)
 three true true true a g e = (refl, refl)
 three true true false a g e = absurd (let z : ◌≡◌ {A = ℕ} 0 1 = cc in omega arith)

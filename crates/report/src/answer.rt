@@ -2,7 +2,7 @@
 ghost use Rattle.std.specs.Prelude.{◌≡◌, length};
 ghost use Rattle.tags.specs.Filling.{filling};
 ghost use Rattle.sheet.specs.Opening.{Open};
-ghost use Rattle.sheet.specs.Areas.{before, image_listed};
+ghost use Rattle.sheet.specs.Areas.{areas, image_listed};
 ghost use Rattle.chain.specs.Chain.{chain_in};
 ghost use Rattle.chain.specs.Marks.{walked_of, marks_in};
 ghost use Rattle.report.specs.Answer.{report_text, reporting, report_image, report_of};
@@ -33,7 +33,7 @@ fn report_walked(
     requires marks_value { marks.now ≡ marks_in g records.now magazines.now }
     requires walked_value { walked ≡ walked_of (chain_in g records.now) }
     ensures { filling result output.new
-        ≡ reporting (report_text (image_listed g heap.entry records.entry magazines.entry))
+        ≡ reporting (report_text (image_listed g heap.now records.now magazines.now))
         output.old }
 {
     let ending = walked.ending;
@@ -58,7 +58,7 @@ fn report_marked(
     requires fact { Open (length heap.now) (length records.now) g }
     requires marks_len { length marks.old ≡ g.count }
     ensures { filling result output.new
-        ≡ report_image (image_listed g heap.entry records.entry magazines.entry)
+        ≡ report_image (image_listed g heap.now records.now magazines.now)
         output.old }
 {
     let marked = marks::mark(records, magazines, g, marks);
@@ -78,7 +78,7 @@ fn report_image(
 ) -> Answer
     requires { Open (length heap.now) (length records.now) g }
     ensures { filling result output.new
-        ≡ report_image (image_listed g heap.entry records.entry magazines.entry)
+        ≡ report_image (image_listed g heap.now records.now magazines.now)
         output.old }
 {
     let mut area = [0u8; limits::MOST_BUFFERS];
@@ -97,7 +97,7 @@ pub fn report(
     output: &mut [u8],
 ) -> Answer
     ensures { filling result output.new
-        ≡ report_of profile (before sheet heap records) magazines.now (length log.now)
+        ≡ report_of profile (areas sheet.now heap.now records.now) magazines.now (length log.now)
         output.old }
 {
     let opened = opening::open_with_log(profile, sheet, heap.len(), records.len(), log.len());

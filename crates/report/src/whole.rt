@@ -76,7 +76,7 @@ fn put_report(
     requires met_value { met ≡ length (chain_in g records.now).met }
     requires ending_value { ending ≡ (chain_in g records.now).ending }
     ensures { Put output 0
-        (report_text (image_listed g heap.entry records.entry magazines.entry)) result }
+        (report_text (image_listed g heap.now records.now magazines.now)) result }
 {
     let n = g.count;
     let mut rows = [0u32; 3 * BATCH];
@@ -113,7 +113,7 @@ pub(crate) fn write_report(
     requires met_value { met ≡ length (chain_in g records.now).met }
     requires ending_value { ending ≡ (chain_in g records.now).ending }
     ensures { filling result output.new
-        ≡ writing (report_text (image_listed g heap.entry records.entry magazines.entry))
+        ≡ writing (report_text (image_listed g heap.now records.now magazines.now))
         output.old }
 {
     if text::longest(g.count) <= output.len() {

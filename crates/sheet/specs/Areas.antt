@@ -1,7 +1,5 @@
 -- The three areas that a call is lent, what a call leaves in them, and the image that they are once they are open, with its magazine list. Assumes nothing.
 use Rattle.std.specs.Prelude.{Bool, true, false, cond, List, [], ◌∷◌, ℕ, eqb, leb, length}
-use Rattle.std.specs.Borrow.{Bor}
-use denote.Triple.Both.{Both}
 pub use Rattle.area.specs.Place.{PartAt}
 use Rattle.area.specs.Place.{by_place}
 use Rattle.words.specs.Word.{part}
@@ -23,21 +21,6 @@ areas sheet heap records = record { sheet = sheet; heap = heap; records = record
 
 -- ---- what a contract says of the areas
 
--- the bytes that three references lend
-abbrev pub lent : Bor (List ℕ) → Bor (List ℕ) → Bor (List ℕ) → Areas
-lent sheet heap records = areas sheet.now heap.now records.now
-
--- a slice that a call is lent, as an `ensures` names it: at entry and at exit
-abbrev pub Slice : Type 0
-Slice = Both (Bor (List ℕ)) (Bor (List ℕ))
-
--- the areas before a call, and after it
-abbrev pub before : Slice → Slice → Slice → Areas
-before sheet heap records = lent sheet.entry heap.entry records.entry
-
-abbrev pub after : Slice → Slice → Slice → Areas
-after sheet heap records = lent sheet.exit heap.exit records.exit
-
 -- what is said of the lengths of the three areas
 abbrev pub by_lengths : {A : Type 1} → (ℕ → ℕ → ℕ → A) → Areas → A
 by_lengths f a = f (length a.sheet) (length a.heap) (length a.records)
@@ -49,16 +32,16 @@ pub record Result (A : Type 0) : Type 0 where
   pub answer : A
   pub areas : Areas
 
-abbrev pub result : {A : Type 0} → A → Areas → Result A
-result answer a = record { answer = answer; areas = a }
+abbrev pub outcome : {A : Type 0} → A → Areas → Result A
+outcome answer a = record { answer = answer; areas = a }
 
 -- E1 (a refused call leaves every lent byte)
 abbrev pub refused_with : {A : Type 0} → A → Areas → Result A
-refused_with answer a = result answer a
+refused_with answer a = outcome answer a
 
 -- the same, with the answer in another form
 abbrev pub answered : {A B : Type 0} → (A → B) → Result A → Result B
-answered f r = result (f r.answer) r.areas
+answered f r = outcome (f r.answer) r.areas
 
 -- ---- an image
 
@@ -80,12 +63,12 @@ image_with a l g = image g a.heap a.records l
 abbrev pub image_of : Areas → Sheet → Image
 image_of a g = image_with a [] g
 
--- the same two of references
-abbrev pub image_listed : Sheet → Bor (List ℕ) → Bor (List ℕ) → Bor (List ℕ) → Image
-image_listed g heap records l = image g heap.now records.now l.now
+-- the same two of their bytes
+abbrev pub image_listed : Sheet → List ℕ → List ℕ → List ℕ → Image
+image_listed = image
 
-abbrev pub image_in : Sheet → Bor (List ℕ) → Bor (List ℕ) → Image
-image_in g heap records = image g heap.now records.now []
+abbrev pub image_in : Sheet → List ℕ → List ℕ → Image
+image_in g heap records = image g heap records []
 
 -- E3 (X1, X2, X3): whether the areas of a call are an image of a profile, and with a log of l bytes
 abbrev pub opening : Profile → Areas → Opened

@@ -3,7 +3,7 @@ ghost use Rattle.std.specs.Prelude.{◌≡◌, ◌≤◌, ◌<◌, length};
 ghost use Rattle.std.proofs.lemmas.List.Edits.{sets};
 ghost use Rattle.tags.specs.Ending.{ending_value};
 ghost use Rattle.geometry.specs.Limits.{count_most};
-ghost use Rattle.sheet.specs.Areas.{before};
+ghost use Rattle.sheet.specs.Areas.{areas};
 ghost use Rattle.survey.specs.Numbers.{chain_numbers, numbering, room_for, survey_numbers_of};
 
 use crate::table;
@@ -63,7 +63,7 @@ pub fn survey_numbers(
     chain: &mut [u32],
 ) -> Answer
     ensures { numbering result rows.new chain.new
-        ≡ survey_numbers_of profile (before sheet heap records) magazines.now (length log.now)
+        ≡ survey_numbers_of profile (areas sheet.now heap.now records.now) magazines.now (length log.now)
         rows.old chain.old }
 {
     let opened = opening::open_with_log(profile, sheet, heap.len(), records.len(), log.len());

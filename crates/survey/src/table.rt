@@ -1,7 +1,7 @@
 // The findings of an image as numbers, three for each buffer: its index, the number of its verdict, and its size or offset.
 ghost use Rattle.std.specs.Prelude.{◌≡◌, true, ◌*◌, ◌≤◌, length};
 ghost use Rattle.tags.specs.Filling.{filling};
-ghost use Rattle.sheet.specs.Areas.{before, image_listed};
+ghost use Rattle.sheet.specs.Areas.{areas, image_listed};
 ghost use Rattle.sheet.specs.Opening.{Open};
 ghost use Rattle.survey.specs.Table.{tabled_of, tabulate_of};
 
@@ -30,7 +30,7 @@ fn fill_marked(
     requires marks_len { length marks.old ≡ g.count }
     requires count_in_bounds { room ≡ true → g.count * 3 ≤ length rows.old }
     ensures { filling result rows.new
-        ≡ tabled_of (image_listed g heap.entry records.entry magazines.entry) room
+        ≡ tabled_of (image_listed g heap.now records.now magazines.now) room
         rows.old }
 {
     let marked = marks::mark(records, magazines, g, marks);
@@ -59,7 +59,7 @@ pub(crate) fn fill_table(
     requires fact { Open (length heap.now) (length records.now) g }
     requires count_in_bounds { room ≡ true → g.count * 3 ≤ length rows.old }
     ensures { filling result rows.new
-        ≡ tabled_of (image_listed g heap.entry records.entry magazines.entry) room
+        ≡ tabled_of (image_listed g heap.now records.now magazines.now) room
         rows.old }
 {
     let mut area = [0u8; limits::MOST_BUFFERS];
@@ -77,7 +77,7 @@ pub fn tabulate(
     rows: &mut [u32],
 ) -> Answer
     ensures { filling result rows.new
-        ≡ tabulate_of profile (before sheet heap records) magazines.now rows.old }
+        ≡ tabulate_of profile (areas sheet.now heap.now records.now) magazines.now rows.old }
 {
     let opened = opening::open(profile, sheet, heap.len(), records.len());
     match opened {

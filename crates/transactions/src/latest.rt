@@ -4,7 +4,7 @@ ghost use Rattle.std.specs.Prelude.{◌≡◌, ◌+◌, ◌*◌, ◌≤◌, ◌<
 ghost use Rattle.history.specs.Log.{row_size, log_most};
 ghost use Rattle.geometry.specs.Sheet.{records_length};
 ghost use Rattle.geometry.specs.Limits.{Lawful};
-ghost use Rattle.sheet.specs.Areas.{before};
+ghost use Rattle.sheet.specs.Areas.{areas};
 ghost use Rattle.transactions.specs.Latest.{row_later, best_of, latest_row, first_best, owned_latest, indexed_latest, latest_of, latest_part, LatestPlace};
 
 use area::place::Place;
@@ -135,7 +135,7 @@ pub fn find_latest(
     index: u32,
     time: u32,
 ) -> Transaction
-    ensures { result ≡ latest_of profile (before sheet heap records) log.now index time }
+    ensures { result ≡ latest_of profile (areas sheet.now heap.now records.now) log.now index time }
 {
     let opened = opening::open_with_log(profile, sheet, heap.len(), records.len(), log.len());
     match opened {
@@ -156,9 +156,9 @@ pub fn latest<'a>(
 ) -> &'a [u8]
     ensures bytes { result.now
         ≡ latest_part profile records.now log.now
-        (latest_of profile (before sheet heap records) log.now index time) }
+        (latest_of profile (areas sheet.now heap.now records.now) log.now index time) }
     ensures place { LatestPlace profile records.entry log.entry
-        (latest_of profile (before sheet heap records) log.now index time) result }
+        (latest_of profile (areas sheet.now heap.now records.now) log.now index time) result }
 {
     let found = find_latest(profile, sheet, heap, records, log, index, time);
     match found {

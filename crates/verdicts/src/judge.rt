@@ -148,7 +148,7 @@ pub fn judge_buffer(
     requires marks_value { marks.now ≡ marks_in g records.now magazines.now }
     requires ending_value { ending ≡ (chain_in g records.now).ending }
     ensures { result
-        ≡ told_of (verdict_of (image_listed g heap.entry records.entry magazines.entry) i) }
+        ≡ told_of (verdict_of (image_listed g heap.now records.now magazines.now) i) }
 {
     let digits = marks::read(marks[i]);
     if digits.names != 1 {
@@ -206,7 +206,7 @@ pub fn tell_buffers(
     requires count_in_bounds { count * 3 ≤ length rows.old }
     ensures { rows.new
         ≡ sets rows.old 0
-        (rows_of (image_listed g heap.entry records.entry magazines.entry) from count) }
+        (rows_of (image_listed g heap.now records.now magazines.now) from count) }
 {
     let mut k = 0;
     while k < count {

@@ -1,7 +1,7 @@
 -- What the plan found is written; a refusal writes nothing. Assumes nothing.
 use mathlib.Core.Path.{sym, ◌∙◌}
 use borrow.Author.Rules.{rules}
-use Rattle.sheet.specs.Areas.{lent}
+use Rattle.sheet.specs.Areas.{areas}
 use Rattle.free.specs.Free.{free_of}
 use Rattle.held.proofs.Holdings.{HeldAt}
 use Rattle.free.proofs.Frees.{free_known}
@@ -10,7 +10,7 @@ use Rattle.free.proofs.free.Tie as tie
 
 -- the buffer is held
 known : (c : tie.After-planned2) → let a = c.before.before.before.before.before.before.before.before.before.args in
-    HeldAt a.profile (lent a.sheet a.heap a.records) a.address c.planned2.given.0.0
+    HeldAt a.profile (areas a.sheet.now a.heap.now a.records.now) a.address c.planned2.given.0.0
 known c = free_known _ _ _ _ _ _ (sym c.before.before.plan.ensures ∙ c.planned2.given.1)
 
 returns-2 : tie.Need-returns-2

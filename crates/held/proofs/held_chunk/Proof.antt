@@ -44,7 +44,7 @@ returns c =
     let n = b.before.before in
     let a = (start n).args in
     let chunk = n.before.before.before.before.chunk.ensures in
-    rw (chunk_named (image_in a.g a.heap a.records) _ _ _ _ (named n) (sym b.buffer.ensures ∙ c.before.if1.true), ← chunk)
+    rw (chunk_named (image_in a.g a.heap.now a.records.now) _ _ _ _ (named n) (sym b.buffer.ensures ∙ c.before.if1.true), ← chunk)
     c.held_by.ensures
 
 returns-2 : tie.Need-returns-2
@@ -58,7 +58,7 @@ returns-3 c =
     let b = c.before in
     let n = b.before.before in
     let a = (start n).args in
-    sym (chunk_unnamed (image_in a.g a.heap a.records) _ _ _ _ (named n) (λ e. c.if1.false (b.buffer.ensures ∙ e)))
+    sym (chunk_unnamed (image_in a.g a.heap.now a.records.now) _ _ _ _ (named n) (λ e. c.if1.false (b.buffer.ensures ∙ e)))
 
 pub held_chunk_spec : {M : Type 1} → statement M
 held_chunk_spec =

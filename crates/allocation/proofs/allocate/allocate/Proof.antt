@@ -1,7 +1,7 @@
 -- What the plan found is written; a refusal writes nothing. Assumes nothing.
 use mathlib.Core.Path.{sym, ◌∙◌}
 use borrow.Author.Rules.{rules}
-use Rattle.sheet.specs.Areas.{lent, by_lengths}
+use Rattle.sheet.specs.Areas.{areas, by_lengths}
 use Rattle.allocation.specs.Allocate.{allocate_of, Takes}
 use Rattle.allocation.proofs.Takings.{taken_known}
 use Rattle.allocation.proofs.allocate.allocate.Statement.{statement}
@@ -16,7 +16,7 @@ written c = c.before.before.before.before.before.before.before
 
 -- what is known of the buffer that the plan takes
 taken : (c : tie.After-planned2) → let a = (start c.before.before).args in
-    by_lengths Takes (lent a.sheet a.heap a.records) a.grant c.planned2.given.0.0
+    by_lengths Takes (areas a.sheet.now a.heap.now a.records.now) a.grant c.planned2.given.0.0
 taken c = taken_known _ _ _ _ _ (sym c.before.before.plan.ensures ∙ c.planned2.given.1)
 
 buffer-address-requires : tie.Need-buffer-address-requires

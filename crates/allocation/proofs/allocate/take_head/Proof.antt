@@ -46,7 +46,7 @@ returns-3 c =
     let h = headed n in
     let f = n.before.before in
     let a = (start h).args in
-    let e = head_taken (image_in a.g a.heap a.records) _ _ (sym h.before.before.find-record.ensures ∙ h.head.given.1)
+    let e = head_taken (image_in a.g a.heap.now a.records.now) _ _ (sym h.before.before.find-record.ensures ∙ h.head.given.1)
     (ap (buffer_of a.g) (sym f.before.buffer.ensures) ∙ sym f.find-buffer.ensures ∙ n.named.given.1) in
     rw (e, ← c.before.chunk.ensures) c.take_Chunk.ensures
 

@@ -2,7 +2,7 @@
 use mathlib.Core.Path.{sym, ap, ◌∙◌}
 use native.Mathlib.Omega.{arith}
 use borrow.Author.Rules.{rules}
-use Rattle.sheet.specs.Areas.{lent}
+use Rattle.sheet.specs.Areas.{areas}
 use Rattle.client.proofs.Clients.{Shows, shown_known, shown_starts}
 use Rattle.capi.specs.Answer.{show_word}
 use Rattle.capi.proofs.calls.cg_show.Statement.{statement}
@@ -11,7 +11,7 @@ use Rattle.capi.proofs.calls.cg_show.Tie as tie
 -- the bytes that are shown are few, and start near the buffer's start
 known : (c : tie.After-c2) → let p = c.before.before.before in
     let a = p.before.before.before.before.args in
-    Shows p.profile-if.result (lent a.sheet a.heap a.records) a.address
+    Shows p.profile-if.result (areas a.sheet.now a.heap.now a.records.now) a.address
     c.c2.given.0.0 c.c2.given.0.1.0 c.c2.given.0.1.1.0
 known c = shown_known _ _ _ _ _ _ (sym c.before.before.find-client.ensures ∙ c.c2.given.1)
 

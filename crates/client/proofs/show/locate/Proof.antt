@@ -8,7 +8,7 @@ use Rattle.client.proofs.show.locate.Tie as tie
 
 -- the buffer is held
 known : (c : tie.After-held2) → let a = c.before.before.before.before.before.args in
-    HeldIn (image_in a.g a.heap a.records) a.address c.held2.given.0.0
+    HeldIn (image_in a.g a.heap.now a.records.now) a.address c.held2.given.0.0
 known c = held_known _ _ _ c.before.before.before.before.before.requires (sym c.before.before.hold.ensures ∙ c.held2.given.1)
 
 returns-2 : tie.Need-returns-2

@@ -11,7 +11,7 @@ use Rattle.client.proofs.store.fit.Tie as tie
 
 -- the buffer is held
 held : (c : tie.After-held2) → let a = c.before.before.before.before.before.args in
-    held_of (image_in a.g a.heap a.records) a.address ≡ Buffer c.held2.given.0.0
+    held_of (image_in a.g a.heap.now a.records.now) a.address ≡ Buffer c.held2.given.0.0
 held c = sym c.before.before.hold.ensures ∙ c.held2.given.1
 
 pub fit_spec : {M : Type 1} → statement M

@@ -4,7 +4,7 @@ use Prim.Native.Nat.{◌+◌, ◌≤◌}
 use native.Mathlib.Omega.{arith}
 use borrow.Author.Rules.{rules}
 use lib.ListN.{length}
-use Rattle.sheet.specs.Areas.{lent}
+use Rattle.sheet.specs.Areas.{areas}
 use Rattle.held.proofs.Holdings.{HeldAt}
 use Rattle.client.specs.Bounds.{client_size}
 use Rattle.client.specs.Store.{store_of, stored_areas}
@@ -15,7 +15,7 @@ use Rattle.client.proofs.store.store.Tie as tie
 -- the buffer is held, and the bytes lie in the client's
 known : (c : tie.After-planned2) → let a = c.before.before.before.before.before.before.before.before.args in
     let p = c.planned2.given.0.0 in
-    HeldAt a.profile (lent a.sheet a.heap a.records) a.address p × (a.offset + length a.bytes.now ≤ client_size p)
+    HeldAt a.profile (areas a.sheet.now a.heap.now a.records.now) a.address p × (a.offset + length a.bytes.now ≤ client_size p)
 known c = store_known _ _ _ _ _ _ (sym c.before.before.plan.ensures ∙ c.planned2.given.1)
 
 add-write-run : tie.Need-overflow-add-write-run

@@ -4,7 +4,7 @@ use native.Mathlib.Omega.{arith}
 use borrow.Author.Rules.{rules}
 use lib.ListN.{length, take}
 use Rattle.sheet.specs.Opening.{Open, opened_of}
-use Rattle.sheet.specs.Areas.{Areas, lent}
+use Rattle.sheet.specs.Areas.{Areas, areas}
 use Rattle.sheet.specs.declared.opening.Opened.TheVariants as opened
 use Rattle.sheet.proofs.Opens.{opened_known}
 use Rattle.chain.specs.Marks.{marks_in, MarksIf}
@@ -18,7 +18,7 @@ abbrev start : tie.After-opened2 → tie.Start
 start c = c.before.before.before.before.before.before.before
 
 abbrev areas : tie.Start → Areas
-areas s = lent s.args.sheet s.args.heap s.args.records
+areas s = areas s.args.sheet.now s.args.heap.now s.args.records.now
 
 -- the image is open
 opens : (c : tie.After-opened2) →

@@ -2,7 +2,7 @@
 use mathlib.Core.Path.{sym, ◌∙◌}
 use borrow.Author.Rules.{rules}
 use lib.ListN.{length}
-use Rattle.sheet.specs.Areas.{lent}
+use Rattle.sheet.specs.Areas.{areas}
 use Rattle.sheet.proofs.Opens.{logged_known}
 use Rattle.report.specs.Answer.{report_of}
 use Rattle.report.proofs.Reports.{report_opened}
@@ -26,7 +26,7 @@ returns-2 c =
     let o = r.before.before.before in
     let a = o.before.before.before.before.before.before.before.before.before.args in
     r.report-image.ensures
-    ∙ sym (report_opened a.profile (lent a.sheet a.heap a.records) a.magazines.now (length a.log.now) a.output.now _
+    ∙ sym (report_opened a.profile (areas a.sheet.now a.heap.now a.records.now) a.magazines.now (length a.log.now) a.output.now _
     (sym o.before.before.open-with-log.ensures ∙ o.opened2.given.1))
 
 pub report_spec : {M : Type 1} → statement M

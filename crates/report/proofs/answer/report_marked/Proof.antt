@@ -18,7 +18,7 @@ returns : tie.Need-returns
 returns c =
     let m = c.before.before.before.before.before in
     let a = m.before.before.before.before.before.before.before.args in
-    sym (image_refused (image_listed a.g a.heap a.records a.magazines) a.output.now _ (sym m.mark.ensures.0 ∙ c.before.marked.given.1))
+    sym (image_refused (image_listed a.g a.heap.now a.records.now a.magazines.now) a.output.now _ (sym m.mark.ensures.0 ∙ c.before.marked.given.1))
 
 returns-2 : tie.Need-returns-2
 returns-2 c =
@@ -27,7 +27,7 @@ returns-2 c =
     let m = d.before.before.before.before in
     let a = m.before.before.before.before.before.before.before.args in
     r.report-walked.ensures
-    ∙ sym (image_reported (image_listed a.g a.heap a.records a.magazines) a.output.now _ (sym m.mark.ensures.0 ∙ d.marked2.given.1))
+    ∙ sym (image_reported (image_listed a.g a.heap.now a.records.now a.magazines.now) a.output.now _ (sym m.mark.ensures.0 ∙ d.marked2.given.1))
 
 pub report_marked_spec : {M : Type 1} → statement M
 report_marked_spec =

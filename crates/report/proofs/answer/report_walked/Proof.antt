@@ -20,7 +20,7 @@ cast-t15 c =
     let w = c.before.before.before.before.before in
     let s = w.before.before.before.before.before.before.before in
     let z = s.requires.0.law.sizes in
-    let m = image_listed s.args.g s.args.heap s.args.records s.args.magazines in
+    let m = image_listed s.args.g s.args.heap.now s.args.records.now s.args.magazines.now in
     let k = written_known (report_text m) s.args.output.now _ _ _ w.write-report.ensures c.before.written.given.1 in
     omega (arith, k.0, report_text_short m z, z.few)
 

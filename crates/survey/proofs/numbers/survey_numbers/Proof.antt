@@ -11,7 +11,7 @@ use Rattle.tags.specs.Ending.{ending_value}
 use Rattle.tags.specs.declared.refusal.Answer.TheVariants.{Value}
 use Rattle.tags.specs.declared.ending.Ending.{Ending}
 use Rattle.sheet.specs.Opening.{Open}
-use Rattle.sheet.specs.Areas.{Image, lent, image_listed}
+use Rattle.sheet.specs.Areas.{Image, areas, image_listed}
 use Rattle.geometry.specs.declared.sheet.Sheet.{Sheet}
 use Rattle.sheet.proofs.Opens.{logged_known}
 use Rattle.chain.specs.declared.walk.Walked.{Walked}
@@ -48,7 +48,7 @@ module _ (c : tie.After-fill-table) where
   sheet = opened-image.opened2.given.0.0
 
   abbrev judged : Image
-  judged = image_listed sheet start.args.heap start.args.records start.args.magazines
+  judged = image_listed sheet start.args.heap.now start.args.records.now start.args.magazines.now
 
   abbrev rows-after : List ℕ
   rows-after = c.fill-table.new.1.1.1.1.1.0
@@ -60,12 +60,12 @@ module _ (c : tie.After-fill-table) where
   -- what the call answers, by what the table does
   answers : (r : Marked) → c.fill-table.result ≡ r
       → numbering (answer_by sheet.count r) rows-after (chain_by_lem start.args.chain.now r)
-      ≡ survey_numbers_of start.args.profile (lent start.args.sheet start.args.heap start.args.records) start.args.magazines.now
+      ≡ survey_numbers_of start.args.profile (areas start.args.sheet.now start.args.heap.now start.args.records.now) start.args.magazines.now
       (length start.args.log.now) start.args.rows.now start.args.chain.now
   answers r e =
       ap (λ (x : Marked). numbering (answer_by sheet.count x) rows-after (chain_by_lem start.args.chain.now x)) (sym e)
       ∙ ap (numbered_by sheet.count start.args.chain.now) tabled
-      ∙ sym (surveyed start.args.profile (lent start.args.sheet start.args.heap start.args.records) start.args.magazines.now sheet
+      ∙ sym (surveyed start.args.profile (areas start.args.sheet.now start.args.heap.now start.args.records.now) start.args.magazines.now sheet
       start.args.rows.now (length start.args.log.now) start.args.chain.now
       (sym opened-image.before.before.open-with-log.ensures ∙ opened-image.opened2.given.1))
 

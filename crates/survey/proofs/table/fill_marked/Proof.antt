@@ -30,7 +30,7 @@ returns c =
     let m = d.before.before.before.before in
     let a = m.before.before.before.before.before.before.before.args in
     ap (filling (marked.Chain d.marked2.given.0.0)) b.tell-buffers.ensures
-    ∙ sym (table_filled (image_listed a.g a.heap a.records a.magazines) a.room a.rows.now _
+    ∙ sym (table_filled (image_listed a.g a.heap.now a.records.now a.magazines.now) a.room a.rows.now _
     (sym m.mark.ensures.0 ∙ d.marked2.given.1) t.if1.true)
 
 returns-2 : tie.Need-returns-2
@@ -38,14 +38,14 @@ returns-2 c =
     let d = c.before in
     let m = d.before.before.before.before in
     let a = m.before.before.before.before.before.before.before.args in
-    sym (table_refused (image_listed a.g a.heap a.records a.magazines) a.room a.rows.now _ (sym m.mark.ensures.0 ∙ d.marked.given.1))
+    sym (table_refused (image_listed a.g a.heap.now a.records.now a.magazines.now) a.room a.rows.now _ (sym m.mark.ensures.0 ∙ d.marked.given.1))
 
 returns-3 : tie.Need-returns-3
 returns-3 c =
     let d = c.before.before in
     let m = d.before.before.before.before in
     let a = m.before.before.before.before.before.before.before.args in
-    sym (table_short (image_listed a.g a.heap a.records a.magazines) a.room a.rows.now _
+    sym (table_short (image_listed a.g a.heap.now a.records.now a.magazines.now) a.room a.rows.now _
     (sym m.mark.ensures.0 ∙ d.marked2.given.1) c.if1.false)
 
 pub fill_marked_spec : {M : Type 1} → statement M

@@ -6,7 +6,7 @@ use borrow.Author.Rules.{rules}
 use lib.ListN.{length}
 use Rattle.tags.specs.Filling.{filling, told}
 use Rattle.sheet.specs.Opening.{Open}
-use Rattle.sheet.specs.Areas.{lent}
+use Rattle.sheet.specs.Areas.{areas}
 use Rattle.sheet.proofs.Opens.{opened_known}
 use Rattle.chain.specs.declared.marks.Marked.{Marked}
 use Rattle.survey.specs.Table.{tabulate_of}
@@ -25,14 +25,14 @@ answers : (c : tie.After-fill-table) (r : Marked) → c.fill-table.result ≡ r 
     let o = c.before.before.before in
     let a = o.before.before.before.before.before.before.before.before.args in
     filling (answer_by o.opened2.given.0.0.count r) c.fill-table.new.1.1.1.1.1.0
-    ≡ tabulate_of a.profile (lent a.sheet a.heap a.records) a.magazines.now a.rows.now
+    ≡ tabulate_of a.profile (areas a.sheet.now a.heap.now a.records.now) a.magazines.now a.rows.now
 answers c r e =
     let o = c.before.before.before in
     let a = o.before.before.before.before.before.before.before.before.args in
     let g = o.opened2.given.0.0 in
     ap (λ (x : Marked). filling (answer_by g.count x) c.fill-table.new.1.1.1.1.1.0) (sym e)
     ∙ ap (told (answer_by g.count)) c.fill-table.ensures
-    ∙ sym (tabulated a.profile (lent a.sheet a.heap a.records) a.magazines.now g a.rows.now
+    ∙ sym (tabulated a.profile (areas a.sheet.now a.heap.now a.records.now) a.magazines.now g a.rows.now
     (sym o.before.before.«open».ensures ∙ o.opened2.given.1))
 
 pub tabulate_spec : {M : Type 1} → statement M
