@@ -139,5 +139,5 @@ pub fn write_run(s: &mut [u8], at: usize, run: &[u8])
     requires { at + length run.now ≤ length s.old }
     ensures { s.new ≡ sets s.old at run.now }
 {
-    bytes::copy(run, &mut s[at..at + run.len()]);
+    s[at..at + run.len()].copy_from_slice(run);
 }

@@ -1,6 +1,6 @@
 -- The laws of a part of a list, of runs written into it, of places of one width and of parts one after the other, each stated once over offset and length.
 -- Assumes nothing.
-use Rattle.std.proofs.Common.{◌≡◌, ℕ, zero, suc, ◌+◌, ◌-◌, ◌*◌, ◌<◌, ◌≤◌, ◌≢◌, ◌⊎◌, List, [], ◌∷◌, ◌++◌, length, get_or, take, drop, set, sym, refl, ap, ◌∙◌, subst, inl, inr, append_assoc, append-nil, add-zero, add-suc, mul-le-mul_right, suc-mul, zero-add, zero-mul, add-one, arith, length-append, length-drop, length-set, take-append-drop, drop_of_length-le, length-take, length-take-le, get_or-drop, drop-cons, get_or-take, take-take, drop-drop, take_at, drop-set-lt, take-add, drop_at}
+use Rattle.std.proofs.Common.{◌≡◌, ℕ, zero, suc, ◌+◌, ◌-◌, ◌*◌, ◌<◌, ◌≤◌, ◌≢◌, ◌⊎◌, List, [], ◌∷◌, ◌++◌, length, get_or, take, drop, set, sym, refl, ap, ◌∙◌, subst, inl, inr, append_assoc, append-nil, add-zero, add-suc, mul-le-mul_right, suc-mul, zero-add, zero-mul, add-one, arith, length-append, length-drop, length-set, take-append-drop, length-take, length-take-le, get_or-drop, drop-cons, get_or-take, take-take, drop-drop, take_at, drop-set-lt, take-add, drop_at}
 use native.Mathlib.Decide.{ℕ_discrete, dec_le}
 use lib.ListN.{get_or-append}
 use lib.Seq.{sets, sets-eq, length-sets, take-length, drop-length, drop-append-le, drop-append-add, take-append-le, take-append_seam}
@@ -174,16 +174,6 @@ part_back l vs at n ev h =
     (sets-eq vs l at (omega arith)
     ∙ append_assoc (take at l) vs (drop (at + length vs) l)
     ∙ ap (λ (r : List ℕ). take at l ++ (vs ++ r)) (ap (λ (x : ℕ). drop (at + x) l) ev ∙ sym (drop-drop n at l)))
-
--- and so it does where `vs` was copied over it
-pub part_copied : (l vs x : List ℕ) (at : ℕ) → at + length vs ≤ length l
-    → x ≡ take (length vs) vs ++ drop (length vs) (take (at + length vs - at) (drop at l))
-    → take at l ++ (x ++ drop (at + length vs - at) (drop at l)) ≡ sets l at vs
-part_copied l vs x at h e =
-    let n : at + length vs - at ≡ length vs = omega arith in
-    let none : drop (length vs) (take (length vs) (drop at l)) ≡ [] =
-    drop_of_length-le (take (length vs) (drop at l)) {i = length vs} (omega (arith, length-take (length vs) (drop at l))) in
-    rw (e, n, take-length vs, none, append-nil vs) (part_back l vs at (length vs) refl h)
 
 -- what was written is read back
 pub part_written : (l vs : List ℕ) (at n : ℕ) → length vs ≡ n → at + n ≤ length l → part (sets l at vs) at n ≡ vs
