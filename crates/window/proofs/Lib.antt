@@ -1,4 +1,1 @@
 pub mod Windows
-pub mod Steps
-mod Apart
-mod Through
