@@ -1,4 +1,3 @@
 pub mod Places
 pub mod Records
 pub mod Placed
-pub mod Steps

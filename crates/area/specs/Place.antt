@@ -15,7 +15,7 @@ place_of base stride (suc i) w = cond (eqb w (place_address base stride i) && lt
 
 -- L4, K10 (a part of the area it lies in): a part that starts `at` bytes behind the area's own start; a reference is an allocation and an offset in it
 abbrev pub PartAt : Bor (List ℕ) → ℕ → Bor (List ℕ) → Type 0
-PartAt area at p = (p.ptr.0 ≡ area.ptr.0) × (p.ptr.1 ≡ area.ptr.1 + at)
+PartAt area at p = (p.ref_ptr.0 ≡ area.ref_ptr.0) × (p.ref_ptr.1 ≡ area.ref_ptr.1 + at)
 
 -- by the place that a word is the address of
 abbrev pub by_place : {A : Type 0} → Place → (ℕ → A) → A → A
