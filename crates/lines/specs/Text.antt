@@ -3,8 +3,6 @@ use Rattle.std.specs.Prelude.{◌≡◌, Bool, ◌||◌, cond, List, [], ◌∷�
 use Prim.Native.Char.{code}
 use Prim.Native.String.{String, [] as none, ◌∷◌ as ◌then◌}
 use Rattle.std.proofs.lemmas.List.Edits.{sets}
-use Rattle.std.specs.Borrow.{Bor}
-use denote.Triple.Both.{Both}
 use Rattle.tags.specs.Filling.{Filling, filling, if_room}
 use Rattle.words.specs.Word.{flat}
 use Rattle.words.specs.Sum.{total}
@@ -125,10 +123,6 @@ pub record Wrote (entry : List ℕ) (at : ℕ) (text exit : List ℕ) (next : �
   pub long : length exit ≡ length entry
   pub filled : next ≤ length entry → exit ≡ sets entry at text
   pub ends : next ≡ at + length text
-
--- the same of an output that a function is lent
-abbrev pub Put : Both (Bor (List ℕ)) (Bor (List ℕ)) → ℕ → List ℕ → ℕ → Type 0
-Put output at text next = Wrote output.entry.now at text output.exit.now next
 
 -- G8, X11 (all or nothing): the length of the text where there is room for it, at the output's start; output past it stays
 abbrev pub writing : List ℕ → List ℕ → Filling Written ℕ

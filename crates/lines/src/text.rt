@@ -2,7 +2,7 @@
 // counts, into an empty output, and writes, where there is room for all of the text.
 ghost use Rattle.std.specs.Prelude.{◌≡◌, ◌++◌, ◌+◌, ◌^◌, ◌≤◌, ◌<◌, length};
 ghost use Rattle.lines.specs.Text.{decimal_of, labelled, header_of, has_offset, fault_line_of, line_of, chain_line_of, fault_of, faults_of};
-ghost use Rattle.lines.specs.Text.{Put, writing, refusal_line_of, most_buffers, header_most, line_most, chain_most, faults_most, longest};
+ghost use Rattle.lines.specs.Text.{Wrote, writing, refusal_line_of, most_buffers, header_most, line_most, chain_most, faults_most, longest};
 ghost use Rattle.tags.specs.Filling.{filling};
 ghost use Rattle.tags.specs.Refusal.{refusal_number};
 ghost use Rattle.tags.specs.Ending.{ending_value};
@@ -32,7 +32,7 @@ pub enum Written {
 // put nowhere, so that an empty output only counts.
 fn put(output: &mut [u8], at: usize, piece: &[u8]) -> usize
     requires { at + length piece.now < 2 ^ 64 }
-    ensures { Put output at piece.now result }
+    ensures { Wrote output.old at piece.now output.new result }
 {
     let end = at + piece.len();
     if output.len() < end {
@@ -45,7 +45,7 @@ fn put(output: &mut [u8], at: usize, piece: &[u8]) -> usize
 // Puts the number in decimal.
 fn put_decimal(output: &mut [u8], at: usize, n: u64) -> usize
     requires { at + 20 < 2 ^ 64 }
-    ensures put { Put output at (decimal_of n) result }
+    ensures put { Wrote output.old at (decimal_of n) output.new result }
     ensures short { result ≤ at + 20 }
 {
     let mut digits = [0u8; 20];
@@ -57,7 +57,7 @@ fn put_decimal(output: &mut [u8], at: usize, n: u64) -> usize
 fn put_field(output: &mut [u8], at: usize, n: u64, word: &[u8]) -> usize
     requires at_bound { at + 40 < 2 ^ 64 }
     requires word_len_bound { length word.now ≤ 20 }
-    ensures put { Put output at (decimal_of n ++ word.now) result }
+    ensures put { Wrote output.old at (decimal_of n ++ word.now) output.new result }
     ensures short { result ≤ at + 40 }
 {
     let a = put_decimal(output, at, n);
@@ -68,7 +68,7 @@ fn put_field(output: &mut [u8], at: usize, n: u64, word: &[u8]) -> usize
 fn put_labelled(output: &mut [u8], at: usize, word: &[u8], n: u64) -> usize
     requires at_bound { at < 2 ^ 63 }
     requires word_len_bound { length word.now ≤ 20 }
-    ensures { Put output at (labelled word.now n) result }
+    ensures { Wrote output.old at (labelled word.now n) output.new result }
 {
     let a = put(output, at, word);
     put_field(output, a, n, b"\n")
@@ -78,7 +78,7 @@ fn put_labelled(output: &mut [u8], at: usize, word: &[u8], n: u64) -> usize
 fn put_pair(output: &mut [u8], at: usize, n: u64, word: &[u8], last: u64) -> usize
     requires at_bound { at < 2 ^ 62 }
     requires word_len_bound { length word.now ≤ 20 }
-    ensures { Put output at (labelled (decimal_of n ++ word.now) last) result }
+    ensures { Wrote output.old at (labelled (decimal_of n ++ word.now) last) output.new result }
 {
     let a = put_decimal(output, at, n);
     put_labelled(output, a, word, last)
@@ -94,7 +94,7 @@ pub fn longest(n: usize) -> usize
 
 // Puts the first line.
 pub fn put_header(output: &mut [u8]) -> usize
-    ensures put { Put output 0 header_of result }
+    ensures put { Wrote output.old 0 header_of output.new result }
     ensures short { result ≤ header_most }
 {
     put(output, 0, b"heap report 1\n")
@@ -110,7 +110,7 @@ fn has_offset(number: u64) -> bool
 // Puts the line of buffer i, which has a fault, by the number and the value of its verdict.
 fn put_fault(output: &mut [u8], at: usize, i: u64, number: u64, value: u64) -> usize
     requires { at < 2 ^ 61 }
-    ensures { Put output at (fault_line_of i number value) result }
+    ensures { Wrote output.old at (fault_line_of i number value) output.new result }
 {
     let word: &[u8] = b" fault ";
     if has_offset(number) {
@@ -123,7 +123,7 @@ fn put_fault(output: &mut [u8], at: usize, i: u64, number: u64, value: u64) -> u
 // Puts the line of buffer i, by the number and the value of its verdict.
 fn put_verdict(output: &mut [u8], at: usize, i: u64, number: u64, value: u64) -> usize
     requires { at < 2 ^ 61 }
-    ensures { Put output at (line_of i number value) result }
+    ensures { Wrote output.old at (line_of i number value) output.new result }
 {
     if number == 0 {
         return put_field(output, at, i, b" free\n");
@@ -145,7 +145,7 @@ pub fn put_line(output: &mut [u8], at: usize, i: usize, number: u32, value: u32)
     requires at_bound { at < 2 ^ 61 }
     requires i_lt_most_buffers { i < most_buffers }
     requires number_bound { number < 100 }
-    ensures put { Put output at (line_of i number value) result }
+    ensures put { Wrote output.old at (line_of i number value) output.new result }
     ensures short { result ≤ at + line_most }
 {
     put_verdict(output, at, i as u64, number as u64, value as u64)
@@ -156,7 +156,7 @@ pub fn put_chain(output: &mut [u8], at: usize, met: usize, ending: Ending) -> us
     requires at_bound { at < 2 ^ 61 }
     requires met_le_most_buffers { met ≤ most_buffers }
     requires ending_bound { ending_value ending < most_buffers }
-    ensures put { Put output at (chain_line_of met ending) result }
+    ensures put { Wrote output.old at (chain_line_of met ending) output.new result }
     ensures short { result ≤ at + chain_most }
 {
     let a = put(output, at, b"chain ");
@@ -172,7 +172,7 @@ pub fn put_chain(output: &mut [u8], at: usize, met: usize, ending: Ending) -> us
 pub fn put_faults(output: &mut [u8], at: usize, faults: usize) -> usize
     requires at_bound { at < 2 ^ 61 }
     requires faults_le_most_buffers { faults ≤ most_buffers }
-    ensures put { Put output at (faults_of faults) result }
+    ensures put { Wrote output.old at (faults_of faults) output.new result }
     ensures short { result ≤ at + faults_most }
 {
     put_labelled(output, at, b"faults ", faults as u64)
@@ -188,7 +188,7 @@ pub fn fault(number: u32) -> usize
 
 // Puts the line of a refusal.
 fn put_refusal(output: &mut [u8], number: u32) -> usize
-    ensures { Put output 0 (refusal_line_of number) result }
+    ensures { Wrote output.old 0 (refusal_line_of number) output.new result }
 {
     put_labelled(output, 0, b"refused ", number as u64)
 }

@@ -5,7 +5,7 @@ ghost use Rattle.sheet.specs.Opening.{Open};
 ghost use Rattle.sheet.specs.Areas.{image_listed};
 ghost use Rattle.chain.specs.Chain.{chain_in};
 ghost use Rattle.chain.specs.Marks.{marks_in};
-ghost use Rattle.lines.specs.Text.{Put, writing, faults_in, most_buffers, line_most};
+ghost use Rattle.lines.specs.Text.{Wrote, writing, faults_in, most_buffers, line_most};
 ghost use Rattle.report.specs.Answer.{report_text};
 ghost use Rattle.report.specs.Rows.{row_number, row_lines};
 
@@ -32,7 +32,7 @@ fn put_rows(output: &mut [u8], from: usize, first: usize, count: usize, rows: &[
     requires count_bound { first + count ≤ most_buffers }
     requires count_in_bounds { count * 3 ≤ length rows.now }
     requires by_index { (k : ℕ) → k < count → row_number rows.now k < 100 }
-    ensures put { Put output from (row_lines rows.now first count) result }
+    ensures put { Wrote output.old from (row_lines rows.now first count) output.new result }
     ensures short { result ≤ from + count * line_most }
 {
     let mut at = from;
@@ -75,8 +75,8 @@ fn put_report(
     requires marks_value { marks.now ≡ marks_in g records.now magazines.now }
     requires met_value { met ≡ length (chain_in g records.now).met }
     requires ending_value { ending ≡ (chain_in g records.now).ending }
-    ensures { Put output 0
-        (report_text (image_listed g heap.now records.now magazines.now)) result }
+    ensures { Wrote output.old 0
+        (report_text (image_listed g heap.now records.now magazines.now)) output.new result }
 {
     let n = g.count;
     let mut rows = [0u32; 3 * BATCH];
