@@ -101,6 +101,7 @@ pub fn put_header(output: &mut [u8]) -> usize
 }
 
 // Whether the line of a fault ends with an offset.
+#[tactic(auto, unfolding(crate::specs::Text::has_offset))]
 fn has_offset(number: u64) -> bool
     ensures { result ≡ has_offset number }
 {
