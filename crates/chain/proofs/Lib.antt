@@ -1,6 +1,5 @@
 pub mod MetRecords
 pub mod Chains
-pub mod Lends
 pub mod Counts
 pub mod Owns
 pub mod Markings

@@ -1,6 +1,5 @@
 -- The marks, a byte for each of n records and buffers, and what a walk from some word of the chain on gives. Assumes nothing.
 use Rattle.std.specs.Prelude.{cond, ◌≡◌, List, [], ◌∷◌, ◌++◌, ℕ, zero, suc, ◌+◌, ◌-◌, ◌*◌, ◌/◌, ◌%◌, ◌≤◌, eqb, length}
-use denote.Ref.{MutBor, at_last}
 use Rattle.area.specs.Place.{place_of}
 use Rattle.area.specs.Record.{record_size, next_at}
 use Rattle.words.specs.declared.word.Order.{Order}
@@ -66,10 +65,6 @@ abbrev pub WalkOf : Order → ℕ → List ℕ → ℕ → ℕ → ℕ → List 
 WalkOf o size records base n word entry before r exit =
     (p : Profile) → size ≡ record_size p → (rest : ℕ → ℕ) (seen : List ℕ) → entry ≡ area_of n rest seen
     → Gives (chain_after (format_of p o) records base n seen word) rest seen base size n before r exit
-
--- a slice that was lent is the same after, and as long, but for its bytes
-abbrev pub Stays : MutBor (List ℕ) → MutBor (List ℕ) → Type 0
-Stays entry exit = (exit ≡ at_last entry exit.now) × (length exit.now ≡ length entry.now)
 
 -- the result r and the marks at exit are those of the chain c
 pub record Walks (c : Chain) (rest : ℕ → ℕ) (n : ℕ) (r : Walked) (exit : List ℕ) : Type 0 where

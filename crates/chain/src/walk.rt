@@ -3,7 +3,7 @@ ghost use Rattle.std.specs.Prelude.{◌≡◌, ◌+◌, ◌*◌, ◌%◌, ◌≤
 ghost use Rattle.tags.specs.Format.{order_if};
 ghost use Rattle.geometry.specs.Sheet.{records_length};
 ghost use Rattle.geometry.specs.Limits.{Lawful};
-ghost use Rattle.chain.specs.Walk.{word_values, Walkable, WalkOf, Stays, WalkIn};
+ghost use Rattle.chain.specs.Walk.{word_values, Walkable, WalkOf, WalkIn};
 
 use area::place::Place;
 use area::record;
@@ -39,8 +39,8 @@ fn with_met(b: u8) -> u8
 
 // The chain from `word` (H2 to H5), where the marks say which records are met already, `met` of them. It calls itself from the
 // next word, with one record fewer that is not yet met. That word is read at the record's own address, which `word` is.
-// No slice, struct or enum goes into that call or comes out of it, so that it is compiled to a loop: both slices are behind a
-// reference, the length of a record is a number and the order a truth value.
+// No struct or enum goes into that call or comes out of it, so that it is compiled to a loop: the length of a record is a number and
+// the order a truth value.
 fn walk(
     records: &&[u8],
     low: bool,
@@ -48,13 +48,13 @@ fn walk(
     size: usize,
     n: usize,
     word: u32,
-    marks: &mut &mut [u8],
+    marks: &mut [u8],
     met: u64,
 ) -> u64
-    requires { Walkable records.now.now size n marks.old.now met }
-    ensures { WalkOf (order_if low) size records.now.now base n word
-        marks.old.now met result marks.new.now
-        × Stays marks.old marks.new }
+    requires { Walkable records.now.now size n marks.old met }
+    ensures chain { WalkOf (order_if low) size records.now.now base n word
+        marks.old met result marks.new }
+    ensures len { length marks.new ≡ length marks.old }
 {
     if word == 0 {
         return pack(met, word);
@@ -82,8 +82,7 @@ fn walk(
     }
 }
 
-// The same from the head on, over the slice itself: it goes into a local, and the local is lent. The borrow checker does not
-// cover that of a parameter, so this one function is proved by hand.
+// The same from the head on, with no record met.
 fn walk_lent(
     records: &&[u8],
     low: bool,
@@ -97,8 +96,7 @@ fn walk_lent(
     ensures { WalkOf (order_if low) size records.now.now base n head
         marks.old 0 result marks.new }
 {
-    let mut lent = marks;
-    walk(records, low, base, size, n, head, &mut lent, 0)
+    walk(records, low, base, size, n, head, marks, 0)
 }
 
 // The chain from the head, in marks that have no record met yet. How the chain ends is told by the word at which it stops: 0,
