@@ -5,8 +5,7 @@ use Prim.Native.Nat.{ℕ, zero, suc}
 use lib.Dec.{eqb, leb}
 use Rattle.verdicts.specs.Judge.{is_freed_twice}
 use Rattle.verdicts.proofs.Standings.{two_listed, some_listed}
-use Rattle.verdicts.proofs.judge.Standing.is_freed_twice.Statement.{statement}
-use Rattle.verdicts.proofs.judge.Standing.is_freed_twice.Tie as tie
+use Rattle.verdicts.proofs.judge.Standing.is_freed_twice.Goals as goal
 
 met_listed : (k : ℕ) → leb 2 k || not (eqb k 0) && true ≡ not (eqb k 0)
 met_listed zero = refl
@@ -18,11 +17,14 @@ off_listed zero = refl
 off_listed (suc zero) = refl
 off_listed (suc (suc k)) = simp (two_listed k, some_listed (suc k))
 
-pub is_freed_twice_spec : {M : Type 1} → statement M
+pub returns-then-self : goal.returns-then-self
 unfolding is_freed_twice
-is_freed_twice_spec =
-    tie.close
-    (tie.spec
-    (λ c. rw c.if1.true)
-    (λ c. rw (c.before.before.if1.false, c.before.if2.true) (sym (met_listed c.before.before.before.args.self.listed)))
-    (λ c. rw (c.before.before.if1.false, c.before.if2.false) (sym (off_listed c.before.before.before.args.self.listed))))
+returns-then-self c = rw c.if-self.true
+
+pub returns-then-self-2 : goal.returns-then-self-2
+unfolding is_freed_twice
+returns-then-self-2 c = rw (c.if-self.false, c.if-self-2.true) (sym (met_listed c.args.self.listed))
+
+pub returns : goal.returns
+unfolding is_freed_twice
+returns c = rw (c.if-self.false, c.if-self-2.false) (sym (off_listed c.args.self.listed))
