@@ -98,7 +98,14 @@ fn latest_owned(records: &[u8], log: &[u8], g: Sheet, j: usize, time: u32) -> Tr
     }
     let f = g.format;
     let low = (stamp % WORD_VALUES) as u32;
-    let best = latest_row(f, log, history::rows(log.len()), g.record_address(j), low, time);
+    let best = latest_row(
+        f,
+        log,
+        history::rows(log.len()),
+        g.record_address(j),
+        low,
+        time,
+    );
     let row = best.row;
     match row {
         Place::At(k) => Transaction::Row(k),
