@@ -17,6 +17,10 @@ use std::io::{Read, Write};
 use tags::format::Profile;
 use tags::refusal::{Answer, Refusal};
 
+// The program on inputs that give one byte a read or fail.
+#[cfg(test)]
+mod tests;
+
 // Writes the first n bytes of a text.
 fn write_out<W: Write>(output: &mut W, text: &[u8], n: usize) -> io::Result<()>
     requires { n ≤ length text.now }
