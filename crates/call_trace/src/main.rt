@@ -17,11 +17,14 @@
 //     byte, word              the number at an address, or none
 //
 // A call that is refused answers `refused N D`, with the refusal's number and its detail.
+// A write that fails ends the program with its error.
 #![tactic(auto)]
 
 use crate::calls::{HeapArea, Log, SheetArea};
 use chunks::chunk::Grant;
 use sheet::fields;
+use std::io;
+use std::io::Write;
 use tags::format::{Format, Profile};
 use words::word;
 use words::word::Order;
@@ -70,63 +73,165 @@ fn full(p: Profile) -> Grant {
 }
 
 // An image that is none yet, and the image that is laid out.
-fn begin(f: Format, sheet: &mut SheetArea, heap: &mut HeapArea, records: &mut [u8]) {
+fn begin<W: Write>(
+    output: &mut W,
+    f: Format,
+    sheet: &mut SheetArea,
+    heap: &mut HeapArea,
+    records: &mut [u8],
+) -> io::Result<()> {
     let p = f.profile;
-    calls::inspect(p, sheet, heap, records);
+    calls::inspect(output, p, sheet, heap, records)?;
     let answer = layout::lay_out(f, CACHE, HEAP, RECORDS, 24, 3, sheet, heap, records);
-    calls::put_outcome(b"lay_out", answer);
-    calls::inspect(p, sheet, heap, records);
+    calls::put_outcome(output, b"lay_out", answer)?;
+    calls::inspect(output, p, sheet, heap, records)
 }
 
 // A sized grant, a whole one, and two of sizes that no request has.
-fn grant(p: Profile, sheet: &mut SheetArea, heap: &mut HeapArea, records: &mut [u8]) {
-    calls::allocate(p, sheet, heap, records, some(p), 100, 7);
-    calls::allocate(p, sheet, heap, records, Grant::Whole, 200, 8);
-    calls::allocate(p, sheet, heap, records, Grant::Sized(25), 250, 9);
-    calls::allocate(p, sheet, heap, records, Grant::Sized(0), 250, 9);
+fn grant<W: Write>(
+    output: &mut W,
+    p: Profile,
+    sheet: &mut SheetArea,
+    heap: &mut HeapArea,
+    records: &mut [u8],
+) -> io::Result<()> {
+    calls::allocate(output, p, sheet, heap, records, some(p), 100, 7)?;
+    calls::allocate(output, p, sheet, heap, records, Grant::Whole, 200, 8)?;
+    calls::allocate(output, p, sheet, heap, records, Grant::Sized(25), 250, 9)?;
+    calls::allocate(output, p, sheet, heap, records, Grant::Sized(0), 250, 9)
 }
 
 // Stores up to a client's last byte and past it, and what the clients have then.
-fn store(p: Profile, sheet: &SheetArea, heap: &mut HeapArea, records: &[u8]) {
-    calls::store(p, sheet, heap, records, FIRST, 0, b"relay");
-    calls::store(p, sheet, heap, records, FIRST, 10, b"end");
-    calls::store(p, sheet, heap, records, FIRST, 18, b"end");
-    calls::store(p, sheet, heap, records, SECOND, 20, b"tail");
-    calls::store(p, sheet, heap, records, SECOND, 24, b"");
-    calls::show(p, sheet, heap, records, FIRST);
-    calls::show(p, sheet, heap, records, SECOND);
+fn store<W: Write>(
+    output: &mut W,
+    p: Profile,
+    sheet: &SheetArea,
+    heap: &mut HeapArea,
+    records: &[u8],
+) -> io::Result<()> {
+    calls::store(output, p, sheet, heap, records, FIRST, 0, b"relay")?;
+    calls::store(output, p, sheet, heap, records, FIRST, 10, b"end")?;
+    calls::store(output, p, sheet, heap, records, FIRST, 18, b"end")?;
+    calls::store(output, p, sheet, heap, records, SECOND, 20, b"tail")?;
+    calls::store(output, p, sheet, heap, records, SECOND, 24, b"")?;
+    calls::show(output, p, sheet, heap, records, FIRST)?;
+    calls::show(output, p, sheet, heap, records, SECOND)
 }
 
 // Nobody allocates or frees, whether another thread could or not.
-fn refuse_nobody(p: Profile, sheet: &mut SheetArea, heap: &mut HeapArea, records: &mut [u8]) {
-    calls::allocate(p, sheet, heap, records, Grant::Sized(1), 260, 0);
-    calls::allocate(p, sheet, heap, records, Grant::Sized(0), 260, 0);
-    calls::free(p, sheet, heap, records, SECOND, Grant::Whole, 260, 0);
-    calls::free(p, sheet, heap, records, SECOND + 4, Grant::Whole, 260, 0);
+fn refuse_nobody<W: Write>(
+    output: &mut W,
+    p: Profile,
+    sheet: &mut SheetArea,
+    heap: &mut HeapArea,
+    records: &mut [u8],
+) -> io::Result<()> {
+    calls::allocate(output, p, sheet, heap, records, Grant::Sized(1), 260, 0)?;
+    calls::allocate(output, p, sheet, heap, records, Grant::Sized(0), 260, 0)?;
+    calls::free(
+        output,
+        p,
+        sheet,
+        heap,
+        records,
+        SECOND,
+        Grant::Whole,
+        260,
+        0,
+    )?;
+    calls::free(
+        output,
+        p,
+        sheet,
+        heap,
+        records,
+        SECOND + 4,
+        Grant::Whole,
+        260,
+        0,
+    )
 }
 
 // The last buffer is granted in its full size, and there is no room for one more.
-fn fill(p: Profile, sheet: &mut SheetArea, heap: &mut HeapArea, records: &mut [u8]) {
-    calls::allocate(p, sheet, heap, records, full(p), 300, 7);
-    calls::allocate(p, sheet, heap, records, Grant::Whole, 400, 9);
-    calls::allocate(p, sheet, heap, records, Grant::Sized(17), 400, 9);
-    calls::inspect(p, sheet, heap, records);
+fn fill<W: Write>(
+    output: &mut W,
+    p: Profile,
+    sheet: &mut SheetArea,
+    heap: &mut HeapArea,
+    records: &mut [u8],
+) -> io::Result<()> {
+    calls::allocate(output, p, sheet, heap, records, full(p), 300, 7)?;
+    calls::allocate(output, p, sheet, heap, records, Grant::Whole, 400, 9)?;
+    calls::allocate(output, p, sheet, heap, records, Grant::Sized(17), 400, 9)?;
+    calls::inspect(output, p, sheet, heap, records)
 }
 
 // Frees with other grants, the coded size among them, and with the right one, and once more.
-fn free(p: Profile, sheet: &mut SheetArea, heap: &mut HeapArea, records: &mut [u8]) {
-    calls::free(p, sheet, heap, records, FIRST, Grant::Whole, 500, 7);
-    calls::free(p, sheet, heap, records, FIRST, Grant::Sized(28), 500, 7);
-    calls::free(p, sheet, heap, records, THIRD, Grant::Sized(24), 500, 7);
-    calls::free(p, sheet, heap, records, SECOND, Grant::Whole, 500, 8);
-    calls::free(p, sheet, heap, records, SECOND, Grant::Whole, 600, 8);
+fn free<W: Write>(
+    output: &mut W,
+    p: Profile,
+    sheet: &mut SheetArea,
+    heap: &mut HeapArea,
+    records: &mut [u8],
+) -> io::Result<()> {
+    calls::free(output, p, sheet, heap, records, FIRST, Grant::Whole, 500, 7)?;
+    calls::free(
+        output,
+        p,
+        sheet,
+        heap,
+        records,
+        FIRST,
+        Grant::Sized(28),
+        500,
+        7,
+    )?;
+    calls::free(
+        output,
+        p,
+        sheet,
+        heap,
+        records,
+        THIRD,
+        Grant::Sized(24),
+        500,
+        7,
+    )?;
+    calls::free(
+        output,
+        p,
+        sheet,
+        heap,
+        records,
+        SECOND,
+        Grant::Whole,
+        500,
+        8,
+    )?;
+    calls::free(
+        output,
+        p,
+        sheet,
+        heap,
+        records,
+        SECOND,
+        Grant::Whole,
+        600,
+        8,
+    )
 }
 
 // What a freed buffer and an address between buffers show.
-fn show_freed(p: Profile, sheet: &SheetArea, heap: &HeapArea, records: &[u8]) {
-    calls::show(p, sheet, heap, records, SECOND);
-    calls::show(p, sheet, heap, records, THIRD + 4);
-    calls::inspect(p, sheet, heap, records);
+fn show_freed<W: Write>(
+    output: &mut W,
+    p: Profile,
+    sheet: &SheetArea,
+    heap: &HeapArea,
+    records: &[u8],
+) -> io::Result<()> {
+    calls::show(output, p, sheet, heap, records, SECOND)?;
+    calls::show(output, p, sheet, heap, records, THIRD + 4)?;
+    calls::inspect(output, p, sheet, heap, records)
 }
 
 // Three rows of the log: record 0 at 150, record 1 at 450, and record 0 at 110. The low byte of record 1's address is 0 under the
@@ -170,25 +275,32 @@ fn log(f: Format) -> Log {
 
 // The latest transactions: at time 600 a row of buffer 0 and the record of buffer 1; at time 120 the other row, since the uptime
 // 150 is then nearly 2^32 old.
-fn ask<'a>(p: Profile, sheet: &SheetArea, heap: &HeapArea, records: &'a [u8], log: &'a Log) {
-    calls::latest(p, sheet, heap, records, log, 0, 600);
-    calls::latest(p, sheet, heap, records, log, 1, 600);
-    calls::latest(p, sheet, heap, records, log, 0, 120);
-    calls::latest(p, sheet, heap, records, log, 3, 600);
+fn ask<'a, W: Write>(
+    output: &mut W,
+    p: Profile,
+    sheet: &SheetArea,
+    heap: &HeapArea,
+    records: &'a [u8],
+    log: &'a Log,
+) -> io::Result<()> {
+    calls::latest(output, p, sheet, heap, records, log, 0, 600)?;
+    calls::latest(output, p, sheet, heap, records, log, 1, 600)?;
+    calls::latest(output, p, sheet, heap, records, log, 0, 120)?;
+    calls::latest(output, p, sheet, heap, records, log, 3, 600)
 }
 
 // Bytes and words inside the areas, at their ends, and past them.
-fn read(f: Format, heap: &HeapArea, records: &[u8]) {
-    calls::read_byte(heap, HEAP, FIRST + 20);
-    calls::read_byte(heap, HEAP, HEAP + 119);
-    calls::read_byte(heap, HEAP, HEAP + 120);
-    calls::read_byte(heap, HEAP, HEAP - 1);
-    calls::read_word(f, heap, HEAP, FIRST);
-    calls::read_word(f, heap, HEAP, FIRST + 4);
-    calls::read_word(f, heap, HEAP, THIRD + 24);
-    calls::read_word(f, heap, HEAP, HEAP + 116);
-    calls::read_word(f, heap, HEAP, HEAP + 117);
-    calls::read_word(f, records, RECORDS, RECORDS + 104);
+fn read<W: Write>(output: &mut W, f: Format, heap: &HeapArea, records: &[u8]) -> io::Result<()> {
+    calls::read_byte(output, heap, HEAP, FIRST + 20)?;
+    calls::read_byte(output, heap, HEAP, HEAP + 119)?;
+    calls::read_byte(output, heap, HEAP, HEAP + 120)?;
+    calls::read_byte(output, heap, HEAP, HEAP - 1)?;
+    calls::read_word(output, f, heap, HEAP, FIRST)?;
+    calls::read_word(output, f, heap, HEAP, FIRST + 4)?;
+    calls::read_word(output, f, heap, HEAP, THIRD + 24)?;
+    calls::read_word(output, f, heap, HEAP, HEAP + 116)?;
+    calls::read_word(output, f, heap, HEAP, HEAP + 117)?;
+    calls::read_word(output, f, records, RECORDS, RECORDS + 104)
 }
 
 // Writes a byte over the guard byte of the first buffer, and over the fourth byte of that buffer, which is the header's in userland.
@@ -201,119 +313,189 @@ fn put_fourth(heap: &mut HeapArea, b: u8) {
 }
 
 // What is found and shown once a byte of the first buffer is gone.
-fn show_hurt(p: Profile, sheet: &SheetArea, heap: &HeapArea, records: &[u8]) {
-    calls::inspect(p, sheet, heap, records);
-    calls::show(p, sheet, heap, records, FIRST);
+fn show_hurt<W: Write>(
+    output: &mut W,
+    p: Profile,
+    sheet: &SheetArea,
+    heap: &HeapArea,
+    records: &[u8],
+) -> io::Result<()> {
+    calls::inspect(output, p, sheet, heap, records)?;
+    calls::show(output, p, sheet, heap, records, FIRST)
 }
 
 // What is refused then, and what is not.
-fn use_hurt(p: Profile, sheet: &mut SheetArea, heap: &mut HeapArea, records: &mut [u8]) {
-    calls::store(p, sheet, heap, records, FIRST, 0, b"late");
-    calls::free(p, sheet, heap, records, FIRST, some(p), 700, 7);
-    calls::allocate(p, sheet, heap, records, Grant::Sized(1), 800, 7);
-    calls::inspect(p, sheet, heap, records);
+fn use_hurt<W: Write>(
+    output: &mut W,
+    p: Profile,
+    sheet: &mut SheetArea,
+    heap: &mut HeapArea,
+    records: &mut [u8],
+) -> io::Result<()> {
+    calls::store(output, p, sheet, heap, records, FIRST, 0, b"late")?;
+    calls::free(output, p, sheet, heap, records, FIRST, some(p), 700, 7)?;
+    calls::allocate(output, p, sheet, heap, records, Grant::Sized(1), 800, 7)?;
+    calls::inspect(output, p, sheet, heap, records)
 }
 
 // The second buffer is listed, alone, twice, and beside the first, which is allocated.
-fn list(p: Profile, sheet: &SheetArea, heap: &HeapArea, records: &[u8]) {
-    calls::inspect_listed(p, sheet, heap, records, &[SECOND]);
-    calls::inspect_listed(p, sheet, heap, records, &[SECOND, SECOND]);
-    calls::inspect_listed(p, sheet, heap, records, &[SECOND, FIRST]);
+fn list<W: Write>(
+    output: &mut W,
+    p: Profile,
+    sheet: &SheetArea,
+    heap: &HeapArea,
+    records: &[u8],
+) -> io::Result<()> {
+    calls::inspect_listed(output, p, sheet, heap, records, &[SECOND])?;
+    calls::inspect_listed(output, p, sheet, heap, records, &[SECOND, SECOND])?;
+    calls::inspect_listed(output, p, sheet, heap, records, &[SECOND, FIRST])
 }
 
 // An address between two buffers is listed, and more words than there are buffers.
-fn list_refused(p: Profile, sheet: &SheetArea, heap: &HeapArea, records: &[u8]) {
-    calls::inspect_listed(p, sheet, heap, records, &[SECOND, SECOND + 4]);
-    calls::inspect_listed(p, sheet, heap, records, &[SECOND, FIRST, THIRD, SECOND]);
+fn list_refused<W: Write>(
+    output: &mut W,
+    p: Profile,
+    sheet: &SheetArea,
+    heap: &HeapArea,
+    records: &[u8],
+) -> io::Result<()> {
+    calls::inspect_listed(output, p, sheet, heap, records, &[SECOND, SECOND + 4])?;
+    calls::inspect_listed(
+        output,
+        p,
+        sheet,
+        heap,
+        records,
+        &[SECOND, FIRST, THIRD, SECOND],
+    )
 }
 
 // The second buffer is free: in lists while it is on the chain, and then while the chain is empty. Its record is the head's.
-fn list_image(p: Profile, sheet: &mut SheetArea, heap: &HeapArea, records: &[u8]) {
-    list(p, sheet, heap, records);
+fn list_image<W: Write>(
+    output: &mut W,
+    p: Profile,
+    sheet: &mut SheetArea,
+    heap: &HeapArea,
+    records: &[u8],
+) -> io::Result<()> {
+    list(output, p, sheet, heap, records)?;
     fields::set_head(sheet, 0);
-    calls::inspect(p, sheet, heap, records);
-    list(p, sheet, heap, records);
-    list_refused(p, sheet, heap, records);
+    calls::inspect(output, p, sheet, heap, records)?;
+    list(output, p, sheet, heap, records)?;
+    list_refused(output, p, sheet, heap, records)?;
     fields::set_head(sheet, RECORDS + 96 + longer(p) as u32);
+    Ok(())
 }
 
 // The image is laid out and used.
-fn use_image(f: Format, sheet: &mut SheetArea, heap: &mut HeapArea, records: &mut [u8]) {
+fn use_image<W: Write>(
+    output: &mut W,
+    f: Format,
+    sheet: &mut SheetArea,
+    heap: &mut HeapArea,
+    records: &mut [u8],
+) -> io::Result<()> {
     let p = f.profile;
-    begin(f, sheet, heap, records);
-    grant(p, sheet, heap, records);
-    store(p, sheet, heap, records);
-    refuse_nobody(p, sheet, heap, records);
-    fill(p, sheet, heap, records);
-    free(p, sheet, heap, records);
+    begin(output, f, sheet, heap, records)?;
+    grant(output, p, sheet, heap, records)?;
+    store(output, p, sheet, heap, records)?;
+    refuse_nobody(output, p, sheet, heap, records)?;
+    fill(output, p, sheet, heap, records)?;
+    free(output, p, sheet, heap, records)
 }
 
 // It is asked.
-fn ask_image(f: Format, sheet: &SheetArea, heap: &HeapArea, records: &[u8]) {
+fn ask_image<W: Write>(
+    output: &mut W,
+    f: Format,
+    sheet: &SheetArea,
+    heap: &HeapArea,
+    records: &[u8],
+) -> io::Result<()> {
     let p = f.profile;
     let log = log(f);
-    show_freed(p, sheet, heap, records);
-    ask(p, sheet, heap, records, &log);
-    read(f, heap, records);
+    show_freed(output, p, sheet, heap, records)?;
+    ask(output, p, sheet, heap, records, &log)?;
+    read(output, f, heap, records)
 }
 
 // It is hurt at the guard byte, and then at the header, with the guard byte back in its place.
-fn hurt_image(p: Profile, sheet: &mut SheetArea, heap: &mut HeapArea, records: &mut [u8]) {
+fn hurt_image<W: Write>(
+    output: &mut W,
+    p: Profile,
+    sheet: &mut SheetArea,
+    heap: &mut HeapArea,
+    records: &mut [u8],
+) -> io::Result<()> {
     put_guard(heap, 0);
-    show_hurt(p, sheet, heap, records);
-    use_hurt(p, sheet, heap, records);
+    show_hurt(output, p, sheet, heap, records)?;
+    use_hurt(output, p, sheet, heap, records)?;
     put_guard(heap, 0xbb);
     put_fourth(heap, 0x55);
-    show_hurt(p, sheet, heap, records);
-    use_hurt(p, sheet, heap, records);
+    show_hurt(output, p, sheet, heap, records)?;
+    use_hurt(output, p, sheet, heap, records)
 }
 
 // It is hurt at the size code, by what is written over that.
-fn hurt_code(f: Format, sheet: &mut SheetArea, heap: &mut HeapArea, records: &mut [u8], code: u32) {
+fn hurt_code<W: Write>(
+    output: &mut W,
+    f: Format,
+    sheet: &mut SheetArea,
+    heap: &mut HeapArea,
+    records: &mut [u8],
+    code: u32,
+) -> io::Result<()> {
     let p = f.profile;
     let o = f.order;
     word::write_u32(o, heap, CODE, code);
-    show_hurt(p, sheet, heap, records);
-    use_hurt(p, sheet, heap, records);
+    show_hurt(output, p, sheet, heap, records)?;
+    use_hurt(output, p, sheet, heap, records)
 }
 
 // A wrong remainder, the code of size zero, and the least one above the buffer's size.
-fn hurt_codes(f: Format, sheet: &mut SheetArea, heap: &mut HeapArea, records: &mut [u8]) {
-    hurt_code(f, sheet, heap, records, 251 * 20 + 2);
-    hurt_code(f, sheet, heap, records, 1);
-    hurt_code(f, sheet, heap, records, 251 * 25 + 1);
+fn hurt_codes<W: Write>(
+    output: &mut W,
+    f: Format,
+    sheet: &mut SheetArea,
+    heap: &mut HeapArea,
+    records: &mut [u8],
+) -> io::Result<()> {
+    hurt_code(output, f, sheet, heap, records, 251 * 20 + 2)?;
+    hurt_code(output, f, sheet, heap, records, 1)?;
+    hurt_code(output, f, sheet, heap, records, 251 * 25 + 1)
 }
 
 // All of it, on an image of a format whose records have these bytes.
-fn trace(f: Format, records: &mut [u8]) {
+fn trace<W: Write>(output: &mut W, f: Format, records: &mut [u8]) -> io::Result<()> {
     let p = f.profile;
     let mut sheet = [0u8; fields::LENGTH];
     let mut heap = [0u8; 3 * 40];
-    use_image(f, &mut sheet, &mut heap, records);
-    list_image(p, &mut sheet, &heap, records);
-    ask_image(f, &sheet, &heap, records);
-    hurt_image(p, &mut sheet, &mut heap, records);
-    hurt_codes(f, &mut sheet, &mut heap, records);
+    use_image(output, f, &mut sheet, &mut heap, records)?;
+    list_image(output, p, &mut sheet, &heap, records)?;
+    ask_image(output, f, &sheet, &heap, records)?;
+    hurt_image(output, p, &mut sheet, &mut heap, records)?;
+    hurt_codes(output, f, &mut sheet, &mut heap, records)
 }
 
 // The kernel's records have 96 bytes each, and userland's 100.
-fn trace_kernel(low: bool) {
+fn trace_kernel<W: Write>(output: &mut W, low: bool) -> io::Result<()> {
     let mut records = [0u8; 3 * 96];
-    trace(Format::of(false, low), &mut records);
+    trace(output, Format::of(false, low), &mut records)
 }
 
-fn trace_userland(low: bool) {
+fn trace_userland<W: Write>(output: &mut W, low: bool) -> io::Result<()> {
     let mut records = [0u8; 3 * 100];
-    trace(Format::of(true, low), &mut records);
+    trace(output, Format::of(true, low), &mut records)
 }
 
-fn main() {
-    lines::put_word(b"kernel high\n");
-    trace_kernel(false);
-    lines::put_word(b"kernel low\n");
-    trace_kernel(true);
-    lines::put_word(b"userland high\n");
-    trace_userland(false);
-    lines::put_word(b"userland low\n");
-    trace_userland(true);
+fn main(rt: HostRuntime) -> io::Result<()> {
+    let mut output = rt.stdout();
+    lines::put_word(&mut output, b"kernel high\n")?;
+    trace_kernel(&mut output, false)?;
+    lines::put_word(&mut output, b"kernel low\n")?;
+    trace_kernel(&mut output, true)?;
+    lines::put_word(&mut output, b"userland high\n")?;
+    trace_userland(&mut output, false)?;
+    lines::put_word(&mut output, b"userland low\n")?;
+    trace_userland(&mut output, true)
 }

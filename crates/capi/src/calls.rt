@@ -31,8 +31,7 @@ fn grant(whole: bool, size: u32) -> Grant
 }
 
 // Lays out an image in which every buffer is free, by the rules of a profile, its words low byte first or high byte first.
-#[unsafe(no_mangle)]
-pub extern "C" fn cg_lay_out(
+pub fn cg_lay_out(
     userland: bool,
     low_first: bool,
     cache: u32,
@@ -64,8 +63,7 @@ pub extern "C" fn cg_lay_out(
 }
 
 // Grants a buffer. The value is its address.
-#[unsafe(no_mangle)]
-pub extern "C" fn cg_allocate(
+pub fn cg_allocate(
     userland: bool,
     sheet: &mut [u8],
     heap: &mut [u8],
@@ -87,8 +85,7 @@ pub extern "C" fn cg_allocate(
 }
 
 // Frees the buffer at an address.
-#[unsafe(no_mangle)]
-pub extern "C" fn cg_free(
+pub fn cg_free(
     userland: bool,
     sheet: &mut [u8],
     heap: &mut [u8],
@@ -111,8 +108,7 @@ pub extern "C" fn cg_free(
 }
 
 // Stores bytes at an offset in the client's bytes of the buffer at an address.
-#[unsafe(no_mangle)]
-pub extern "C" fn cg_store(
+pub fn cg_store(
     userland: bool,
     sheet: &[u8],
     heap: &mut [u8],
@@ -131,14 +127,7 @@ pub extern "C" fn cg_store(
 
 // Counts the client's bytes of the buffer at an address. The value is their number; bits 16 to 31 say where in the buffer they
 // start. The buffer itself stands in the heap at the address less the heap's base.
-#[unsafe(no_mangle)]
-pub extern "C" fn cg_show(
-    userland: bool,
-    sheet: &[u8],
-    heap: &[u8],
-    records: &[u8],
-    address: u32,
-) -> u64
+pub fn cg_show(userland: bool, sheet: &[u8], heap: &[u8], records: &[u8], address: u32) -> u64
     ensures answer { result
         ≡ show_word (shown_of (profile_if userland) (areas sheet.now heap.now records.now) address) }
     ensures starts { StartsAt (sheet_of (profile_if userland) sheet.now).heap_base address

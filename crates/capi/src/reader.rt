@@ -21,8 +21,7 @@ use transactions::latest;
 use transactions::latest::Transaction;
 
 // Writes the heap's length and the record area's, as the sheet has them. The value is 0.
-#[unsafe(no_mangle)]
-pub extern "C" fn cg_area_lengths(userland: bool, sheet: &[u8], lengths: &mut [u32]) -> u64
+pub fn cg_area_lengths(userland: bool, sheet: &[u8], lengths: &mut [u32]) -> u64
     ensures { filling result lengths.new
         ≡ told answer_word (area_lengths_of (profile_if userland) sheet.now lengths.old) }
 {
@@ -42,8 +41,7 @@ pub extern "C" fn cg_area_lengths(userland: bool, sheet: &[u8], lengths: &mut [u
 }
 
 // Fills three numbers for each buffer: index, verdict number, size or offset. The value is the number of buffers.
-#[unsafe(no_mangle)]
-pub extern "C" fn cg_inspect(
+pub fn cg_inspect(
     userland: bool,
     sheet: &[u8],
     heap: &[u8],
@@ -61,8 +59,7 @@ pub extern "C" fn cg_inspect(
 
 // Fills the same numbers of an image with a log, and three of the chain: records met, ending, the record that it came back to.
 // The value is the number of buffers.
-#[unsafe(no_mangle)]
-pub extern "C" fn cg_survey(
+pub fn cg_survey(
     userland: bool,
     sheet: &[u8],
     heap: &[u8],
@@ -81,8 +78,7 @@ pub extern "C" fn cg_survey(
 }
 
 // Finds the latest transaction of a buffer. The value is the log row's number, or 0x80000000 plus the record's index.
-#[unsafe(no_mangle)]
-pub extern "C" fn cg_latest(
+pub fn cg_latest(
     userland: bool,
     sheet: &[u8],
     heap: &[u8],
@@ -104,8 +100,7 @@ pub extern "C" fn cg_latest(
 }
 
 // Writes the report to the output's start. The value is the length filled.
-#[unsafe(no_mangle)]
-pub extern "C" fn cg_report(
+pub fn cg_report(
     userland: bool,
     sheet: &[u8],
     heap: &[u8],

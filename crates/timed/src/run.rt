@@ -20,8 +20,7 @@ fn place(d: Difference) -> u64
 }
 
 // The fill test.
-#[unsafe(no_mangle)]
-pub extern "C" fn timed_first_difference(s: &[u8], w: u32) -> u64
+pub fn timed_first_difference(s: &[u8], w: u32) -> u64
     ensures { result ≡ place_of (difference s.now
         (repeated (length s.now) (bytes_of HighFirst 4 w))) }
 {
@@ -29,8 +28,7 @@ pub extern "C" fn timed_first_difference(s: &[u8], w: u32) -> u64
 }
 
 // The same, byte by byte.
-#[unsafe(no_mangle)]
-pub extern "C" fn timed_difference_by_bytes(s: &[u8], w: u32) -> u64
+pub fn timed_difference_by_bytes(s: &[u8], w: u32) -> u64
     ensures { result ≡ place_of (difference s.now
         (repeated (length s.now) (bytes_of HighFirst 4 w))) }
 {
@@ -38,8 +36,7 @@ pub extern "C" fn timed_difference_by_bytes(s: &[u8], w: u32) -> u64
 }
 
 // The fill, where the length is a multiple of 8.
-#[unsafe(no_mangle)]
-pub extern "C" fn timed_fill(s: &mut [u8], w: u32) -> bool
+pub fn timed_fill(s: &mut [u8], w: u32) -> bool
     ensures value { result ≡ eqb (length s.old % 8) 0 }
     ensures s_after { s.new ≡ filled s.old (bytes_of HighFirst 4 w) }
 {
