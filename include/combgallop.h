@@ -60,8 +60,8 @@
  *                   else 0
  *   bits 32 to 63   the value of an accepted call, 0 for a refusal
  *
- * A refused call has changed nothing. Link with libcapi.a, written by
- * `rt staticlib capi`.
+ * A refused call has changed nothing. Link with target/staticlib/libcapi.a, written by
+ * `tools/build`.
  */
 #ifndef COMBGALLOP_H
 #define COMBGALLOP_H

@@ -10,7 +10,7 @@ fn main() {
     println!("cargo::rerun-if-changed={}", archive.display());
     if !archive.is_file() {
         let place = archive.display();
-        println!("cargo::error={place} is missing: run `rt staticlib capi` first");
+        println!("cargo::error={place} is missing: run `tools/build` first");
         return;
     }
     println!("cargo::rustc-link-search=native={}", folder.display());

@@ -63,7 +63,7 @@ fn link_verified(package: &Path, output: &Path) {
     println!("cargo::rerun-if-changed={}", archive.display());
     if !archive.is_file() {
         let place = archive.display();
-        println!("cargo::error={place} is missing: run `rt staticlib timed` first");
+        println!("cargo::error={place} is missing: run `tools/build` first");
         return;
     }
     let mut align = Command::new("objcopy");

@@ -30,7 +30,7 @@ fn verified_program() -> PathBuf {
     let place = program.display();
     assert!(
         program.is_file(),
-        "{place} is missing: run `rt check heap_report` first"
+        "{place} is missing: run `tools/build` first"
     );
     program
 }

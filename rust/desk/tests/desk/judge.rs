@@ -20,7 +20,7 @@ fn proved_program() -> PathBuf {
     let place = program.display();
     assert!(
         program.is_file(),
-        "{place} is missing: run `rt check heap_report` first"
+        "{place} is missing: run `tools/build` first"
     );
     program
 }
