@@ -145,7 +145,8 @@ fn commit(
     p: Spot,
 )
     requires { by_lengths Takes (areas sheet.old heap.old records.old) grant p }
-    ensures { areas sheet.new heap.new records.new ≡ granted_areas (areas sheet.old heap.old records.old) grant stamp p }
+    ensures { areas sheet.new heap.new records.new
+        ≡ granted_areas (areas sheet.old heap.old records.old) grant stamp p }
 {
     let g = p.sheet;
     let next = records::next(records, g, p.own);

@@ -75,7 +75,8 @@ unfolding with_next
 length_with_next f r j w = simp length-sets
 
 -- the next word of record j is written, and no other record's
-pub next-same : (f : Format) (r : List ℕ) (j w : ℕ) → w < 4294967296 → j * record_size f.profile + 4 ≤ length r → record_word f (with_next f r j w) j next_at ≡ w
+pub next-same : (f : Format) (r : List ℕ) (j w : ℕ) → w < 4294967296 → j * record_size f.profile + 4 ≤ length r
+    → record_word f (with_next f r j w) j next_at ≡ w
 unfolding record_word with_next
 next-same f r j w h l = number_at_written f.order 4 r (j * record_size f.profile + next_at) w (omega arith) h
 

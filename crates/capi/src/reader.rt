@@ -50,7 +50,8 @@ pub fn cg_inspect(
     rows: &mut [u32],
 ) -> u64
     ensures { filling result rows.new
-        ≡ told answer_word (tabulate_of (profile_if userland) (areas sheet.now heap.now records.now) magazines.now
+        ≡ told answer_word
+        (tabulate_of (profile_if userland) (areas sheet.now heap.now records.now) magazines.now
         rows.old) }
 {
     let profile = format::profile_if(userland);
@@ -70,7 +71,8 @@ pub fn cg_survey(
     chain: &mut [u32],
 ) -> u64
     ensures { numbering result rows.new chain.new
-        ≡ survey_word (survey_numbers_of (profile_if userland) (areas sheet.now heap.now records.now) magazines.now
+        ≡ survey_word
+        (survey_numbers_of (profile_if userland) (areas sheet.now heap.now records.now) magazines.now
         (length log.now) rows.old chain.old) }
 {
     let profile = format::profile_if(userland);
@@ -110,7 +112,8 @@ pub fn cg_report(
     output: &mut [u8],
 ) -> u64
     ensures { filling result output.new
-        ≡ told answer_word (report_of (profile_if userland) (areas sheet.now heap.now records.now) magazines.now
+        ≡ told answer_word
+        (report_of (profile_if userland) (areas sheet.now heap.now records.now) magazines.now
         (length log.now) output.old) }
 {
     let profile = format::profile_if(userland);

@@ -32,7 +32,8 @@ pub extern "C" fn cg_inspect(
     rows: &mut [u32],
 ) -> u64
     ensures { filling result rows.new
-        ≡ told answer_word (tabulate_of (profile_if userland) (areas sheet.now heap.now records.now) magazines.now
+        ≡ told answer_word
+        (tabulate_of (profile_if userland) (areas sheet.now heap.now records.now) magazines.now
         rows.old) }
 {
     reader::cg_inspect(userland, sheet, heap, records, magazines, rows)
@@ -52,7 +53,8 @@ pub extern "C" fn cg_survey(
     chain: &mut [u32],
 ) -> u64
     ensures { numbering result rows.new chain.new
-        ≡ survey_word (survey_numbers_of (profile_if userland) (areas sheet.now heap.now records.now) magazines.now
+        ≡ survey_word
+        (survey_numbers_of (profile_if userland) (areas sheet.now heap.now records.now) magazines.now
         (length log.now) rows.old chain.old) }
 {
     reader::cg_survey(userland, sheet, heap, records, magazines, log, rows, chain)
@@ -87,7 +89,8 @@ pub extern "C" fn cg_report(
     output: &mut [u8],
 ) -> u64
     ensures { filling result output.new
-        ≡ told answer_word (report_of (profile_if userland) (areas sheet.now heap.now records.now) magazines.now
+        ≡ told answer_word
+        (report_of (profile_if userland) (areas sheet.now heap.now records.now) magazines.now
         (length log.now) output.old) }
 {
     reader::cg_report(userland, sheet, heap, records, magazines, log, output)

@@ -227,7 +227,8 @@ module _ (g : Sheet) (l : List ℕ) where
   AllIf k all = all_buffers g l ≡ cond all (all_buffers g (drop k l)) false
 
   -- what word k adds
-  all_from : (k : ℕ) (p : Place) → k < length l → buffer_of g (get_or l k 0) ≡ p → all_buffers g (drop k l) ≡ by_place p (λ i. all_buffers g (drop (suc k) l)) false
+  all_from : (k : ℕ) (p : Place) → k < length l → buffer_of g (get_or l k 0) ≡ p
+      → all_buffers g (drop k l) ≡ by_place p (λ i. all_buffers g (drop (suc k) l)) false
   unfolding all_buffers
   all_from k p h e = ap (all_buffers g) (drop-cons l k 0 h) ∙ ap (λ (q : Place). by_place q (λ i. all_buffers g (drop (suc k) l)) false) e
 

@@ -99,7 +99,8 @@ module _ (n : ℕ) (rest : ℕ → ℕ) (l : List ℕ) where
   is-met area i e h d z = d (area_bit area i e h ∙ ap to_one z)
 
   -- a record more is met
-  pub area-meets : (area : List ℕ) (i : ℕ) → area ≡ area_of n rest l → i < n → get_or area i 0 % 2 ≡ 0 → set area i (get_or area i 0 + 1) ≡ area_of n rest (i ∷ l)
+  pub area-meets : (area : List ℕ) (i : ℕ) → area ≡ area_of n rest l → i < n → get_or area i 0 % 2 ≡ 0
+      → set area i (get_or area i 0 + 1) ≡ area_of n rest (i ∷ l)
   area-meets area i e h z =
       let b : get_or area i 0 ≡ to_one (occ i l) + 2 * rest i = ap (λ (a : List ℕ). get_or a i 0) e ∙ area_at i h in
       let o = ap to_one (not-met area i e h z) in

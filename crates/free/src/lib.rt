@@ -83,7 +83,8 @@ fn plan(
 // Writes what a free changes: the chunk, the record's next word, stamp and thread, and the head.
 fn commit(sheet: &mut [u8], heap: &mut [u8], records: &mut [u8], stamp: Stamp, p: Spot)
     requires { by_lengths Within (areas sheet.old heap.old records.old) p }
-    ensures { areas sheet.new heap.new records.new ≡ freed_areas (areas sheet.old heap.old records.old) stamp p }
+    ensures { areas sheet.new heap.new records.new
+        ≡ freed_areas (areas sheet.old heap.old records.old) stamp p }
 {
     let g = p.sheet;
     let record_at = g.record_address(p.own);

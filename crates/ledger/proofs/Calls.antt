@@ -91,7 +91,8 @@ module _ (g : Sheet) (laid : Laid g) where
         )
         (held_as_lem o.grant (pair_at head j))
 
-    pub held_in : (j : ℕ) → j < g.count → out (buffer_address g j) ≡ none → held_of (image_of a (headed g head)) (buffer_address g j) ≡ held.Refused NotAllocated
+    pub held_in : (j : ℕ) → j < g.count → out (buffer_address g j) ≡ none
+        → held_of (image_of a (headed g head)) (buffer_address g j) ≡ held.Refused NotAllocated
     unfolding held_of held_chunk
     held_in j h e =
         let word = record_fits g laid j h in

@@ -114,5 +114,6 @@ entered_one none = refl
 entered_one (some o) = granted_one o.grant
 
 -- the number found allocated is the number out
-pub found-count : (v : ℕ → Verdict) (o : ℕ → Option Entry) (n : ℕ) → ((i : ℕ) → i < n → v i ≡ as_entered (o i)) → found_allocated v n ≡ total (λ i. outs (o i)) n
+pub found-count : (v : ℕ → Verdict) (o : ℕ → Option Entry) (n : ℕ) → ((i : ℕ) → i < n → v i ≡ as_entered (o i))
+    → found_allocated v n ≡ total (λ i. outs (o i)) n
 found-count v o n h = total-same (λ i. allocated_one (v i)) (λ i. outs (o i)) n (λ i l. ap allocated_one (h i l) ∙ entered_one (o i))

@@ -306,7 +306,8 @@ order_lawful_lem LowFirst = refl
 
 module _ (g : Sheet) where
   -- the body behind k others is read back
-  back : (k : ℕ) → k < 9 → get_or (bodies_of g) k 0 < 256 ^ len_of k fields → number_at HighFirst (len_of k fields) (sheet_bytes g) (body_at k) ≡ get_or (bodies_of g) k 0
+  back : (k : ℕ) → k < 9 → get_or (bodies_of g) k 0 < 256 ^ len_of k fields
+      → number_at HighFirst (len_of k fields) (sheet_bytes g) (body_at k) ≡ get_or (bodies_of g) k 0
   unfolding sheet_bytes
   back k h small = body_back (len_of k fields) (sheet_bytes g) (body_at k) (get_or (bodies_of g) k 0) (body_read k fields (bodies_of g) h refl) small
 

@@ -68,7 +68,8 @@ pub logged_known : (p : Profile) (s : List ℕ) (h r l : ℕ) (g : Sheet) → op
 unfolding opened_with_log
 logged_known p s h r l g e = go (opened_of p s h r) (log_right l) refl refl e
   where
-    go : (o : Opened) (b : Bool) → opened_of p s h r ≡ o → log_right l ≡ b → by_opened o (λ x. cond b (opened.Sheet x) (opened.Refused BadLength)) opened.Refused
+    go : (o : Opened) (b : Bool) → opened_of p s h r ≡ o → log_right l ≡ b
+        → by_opened o (λ x. cond b (opened.Sheet x) (opened.Refused BadLength)) opened.Refused
         ≡ opened.Sheet g
         → Opens p s h r g × (l ≤ log_most)
     go (opened.Sheet x) true q k f =

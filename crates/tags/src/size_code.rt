@@ -27,6 +27,7 @@ pub fn encode(size: u16) -> u32
 
 // The size that a code stands for in a buffer of `most` bytes, or how it is bad. The remainder is tested: a division alone would take
 // a damaged code for a size.
+#[tactic(auto, unfolding(crate::specs::SizeCode::decoded_of))]
 pub fn decode(code: u32, most: u32) -> Decoded
     ensures { result ≡ decoded_of code most }
 {

@@ -33,7 +33,11 @@ module _ (c : In-At) where
 
 pub returns-then-buffer-address : goal.returns-then-buffer-address
 returns-then-buffer-address c =
-    rw (chunk_named (image_in c.args.g c.args.heap.now c.args.records.now) _ _ _ _ (named (goal.at.returns-then-buffer-address c).In-At) (sym c.buffer.ensures ∙ c.if-buffer-address.true), ← c.chunk-chunk.ensures)
+    rw (
+      chunk_named (image_in c.args.g c.args.heap.now c.args.records.now) _ _ _ _ (named (goal.at.returns-then-buffer-address c).In-At)
+          (sym c.buffer.ensures ∙ c.if-buffer-address.true),
+      ← c.chunk-chunk.ensures,
+    )
     c.held_by.ensures
 
 pub returns-in-Nowhere : goal.returns-in-Nowhere
@@ -43,7 +47,8 @@ returns-in-Nowhere c =
 
 pub returns-else-buffer-address : goal.returns-else-buffer-address
 returns-else-buffer-address c =
-    sym (chunk_unnamed (image_in c.args.g c.args.heap.now c.args.records.now) _ _ _ _ (named (goal.at.returns-else-buffer-address c).In-At) (λ e. c.if-buffer-address.false (c.buffer.ensures ∙ e)))
+    sym (chunk_unnamed (image_in c.args.g c.args.heap.now c.args.records.now) _ _ _ _ (named (goal.at.returns-else-buffer-address c).In-At)
+    (λ e. c.if-buffer-address.false (c.buffer.ensures ∙ e)))
 
 pub read_tag-tag-requires : goal.read_tag-tag-requires
 read_tag-tag-requires c = lawful (goal.at.read_tag-tag-requires c).After-chunk-chunk

@@ -20,18 +20,27 @@ decided c = rw (← c.read_tag-tag.ensures, eq-eqb _ _ c.if-tag-g.false)
 
 pub returns-then-is_free : goal.returns-then-is_free
 returns-then-is_free c =
-    rw (decided (goal.at.returns-then-is_free c).Else-tag-g, is_free_lem (pattern-read (goal.at.returns-then-is_free c).Else-tag-g) (sym c.is_free.ensures ∙ c.if-is_free.true))
+    rw (
+      decided (goal.at.returns-then-is_free c).Else-tag-g,
+      is_free_lem (pattern-read (goal.at.returns-then-is_free c).Else-tag-g)
+          (sym c.is_free.ensures ∙ c.if-is_free.true),
+    )
     (c.if_free.ensures (free_verdict _ _) c.judge_free.ensures)
 
 pub returns-then-is_allocated : goal.returns-then-is_allocated
 returns-then-is_allocated c =
-    rw (decided (goal.at.returns-then-is_allocated c).Else-tag-g, is_allocated_lem (pattern-read (goal.at.returns-then-is_allocated c).Else-tag-g) (sym c.is_allocated.ensures ∙ c.if-is_allocated.true))
+    rw (
+      decided (goal.at.returns-then-is_allocated c).Else-tag-g,
+      is_allocated_lem (pattern-read (goal.at.returns-then-is_allocated c).Else-tag-g)
+          (sym c.is_allocated.ensures ∙ c.if-is_allocated.true),
+    )
 
 pub returns : goal.returns
 returns c =
     rw (
       decided (goal.at.returns c).Else-tag-g,
-      is_neither_lem (pattern-read (goal.at.returns c).Else-tag-g) (sym c.is_free.ensures ∙ c.if-is_free.false) (sym c.is_allocated.ensures ∙ c.if-is_allocated.false),
+      is_neither_lem (pattern-read (goal.at.returns c).Else-tag-g) (sym c.is_free.ensures ∙ c.if-is_free.false)
+          (sym c.is_allocated.ensures ∙ c.if-is_allocated.false),
     )
 
 pub returns-then-tag-g : goal.returns-then-tag-g

@@ -22,7 +22,10 @@ found c = (place_found _ _ _ _ _ (sym c.find_buffer-named.ensures ∙ c.in-At-na
 
 pub take_chunk-requires : goal.take_chunk-requires
 take_chunk-requires c =
-    record { chunk_len = ap length c.chunk.ensures ∙ chunk_long _ _ _ c.requires.law c.requires.heap_long (found (goal.at.take_chunk-requires c).In-At-named); lawful = c.requires.law }
+    record {
+      chunk_len = ap length c.chunk.ensures ∙ chunk_long _ _ _ c.requires.law c.requires.heap_long (found (goal.at.take_chunk-requires c).In-At-named);
+      lawful = c.requires.law;
+    }
 
 pub returns-in_default-named : goal.returns-in_default-named
 unfolding taken_head

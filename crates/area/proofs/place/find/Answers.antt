@@ -13,7 +13,8 @@ returns-then-word-base c = sym (place_none c.args.base c.args.stride c.args.coun
 
 pub returns-then-off-stride-ne0 : goal.returns-then-off-stride-ne0
 returns-then-off-stride-ne0 c =
-    sym (place_none c.args.base c.args.stride c.args.count c.args.word (λ i l e. c.if-off-stride-ne0.true (address_multiple c.args.base c.args.stride c.args.word i e)))
+    sym (place_none c.args.base c.args.stride c.args.count c.args.word
+    (λ i l e. c.if-off-stride-ne0.true (address_multiple c.args.base c.args.stride c.args.word i e)))
 
 pub returns-then-i-count : goal.returns-then-i-count
 returns-then-i-count c =

@@ -45,13 +45,15 @@ loop-k-preserved c =
                   (
                     subst A (sym w.all-is) (all_hit c.args.g c.args.magazines.now c.loop-k.k c.loop-k.all t c.loop-k.invariant.1.1.0 i e),
                     subst N (sym w.marks-is)
-                        (listed_hit c.args.g c.args.magazines.now c.loop-k.k c.args.marks.now c.loop-k.marks t c.loop-k.invariant.1.1.1 i _ some h.0 h.1 w.with_listing.ensures),
+                        (listed_hit c.args.g c.args.magazines.now c.loop-k.k c.args.marks.now c.loop-k.marks t c.loop-k.invariant.1.1.1 i _ some h.0 h.1
+                        w.with_listing.ensures),
                   ),
                 )
             | in-Nowhere w ↦ (
               ap length w.marks-is ∙ c.loop-k.invariant.1.0,
               (
-                subst A (sym w.all-is) (all_miss c.args.g c.args.magazines.now c.loop-k.k c.loop-k.all t c.loop-k.invariant.1.1.0 (sym c.find_buffer-p.ensures ∙ w.in-Nowhere.is)),
+                subst A (sym w.all-is) (all_miss c.args.g c.args.magazines.now c.loop-k.k c.loop-k.all t c.loop-k.invariant.1.1.0
+                    (sym c.find_buffer-p.ensures ∙ w.in-Nowhere.is)),
                 subst N (sym w.marks-is)
                     (listed_miss c.args.g c.args.magazines.now c.loop-k.k c.args.marks.now c.loop-k.marks t c.loop-k.invariant.1.1.1
                     (λ i m e. place_missed c.args.g.heap_base c.args.g.chunk c.args.g.count _ some (sym c.find_buffer-p.ensures ∙ w.in-Nowhere.is) i m e)),
@@ -62,7 +64,11 @@ loop-k-preserved c =
 
 pub returns : goal.returns
 returns c =
-    let e : c.loop-k.k ≡ length c.args.magazines.now = omega (arith, c.loop-k.invariant.0, c.loop-k-test.false) in record { all = all_end c.args.g c.args.magazines.now c.loop-k.k c.loop-k.all e c.loop-k.invariant.1.1.0; marks = listed_all c.args.g c.args.magazines.now c.loop-k.k c.args.marks.now c.loop-k.marks e c.loop-k.invariant.1.1.1 }
+    let e : c.loop-k.k ≡ length c.args.magazines.now = omega (arith, c.loop-k.invariant.0, c.loop-k-test.false) in
+    record {
+      all = all_end c.args.g c.args.magazines.now c.loop-k.k c.loop-k.all e c.loop-k.invariant.1.1.0;
+      marks = listed_all c.args.g c.args.magazines.now c.loop-k.k c.args.marks.now c.loop-k.marks e c.loop-k.invariant.1.1.1;
+    }
 
 pub loop-k-init : goal.loop-k-init
 loop-k-init c = (search rules, (c.requires.marks_len, (refl, listed_none c.args.g c.args.magazines.now _)))

@@ -30,12 +30,18 @@ module _ (c : In-At) where
   in_marks = let h = names.0 in let v = c.loop-j.invariant.1.0 in omega arith
 
 pub loop-j-init : goal.loop-j-init
-loop-j-init c =
-    (search rules, (ap length c.requires.marks_value ∙ length-replicate {A = ℕ} c.args.g.count 0, counted_none c.args.g c.args.records.now _ c.requires.marks_value))
+loop-j-init c = (
+  search rules,
+  (
+    ap length c.requires.marks_value ∙ length-replicate {A = ℕ} c.args.g.count 0,
+    counted_none c.args.g c.args.records.now _ c.requires.marks_value,
+  ),
+)
 
 pub with_name-requires : goal.with_name-requires
 with_name-requires c =
-    small_at c.args.g c.args.records.now c.loop-j.j [] c.loop-j.marks c.loop-j.invariant.1.1 (index (goal.at.with_name-requires c).In-At) (names (goal.at.with_name-requires c).In-At).0
+    small_at c.args.g c.args.records.now c.loop-j.j [] c.loop-j.marks c.loop-j.invariant.1.1 (index (goal.at.with_name-requires c).In-At)
+    (names (goal.at.with_name-requires c).In-At).0
 
 pub loop-j-preserved : goal.loop-j-preserved
 loop-j-preserved c =

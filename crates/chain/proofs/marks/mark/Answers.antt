@@ -22,4 +22,8 @@ returns-then-count_words c =
 
 pub returns : goal.returns
 returns c =
-    record { marked = sym (marked_stray c.args.g c.args.records.now c.args.magazines.now c.if-magazines-g.false (sym c.count_words.ensures.all ∙ c.if-count_words.false)); marks = tt }
+    record {
+      marked = sym (marked_stray c.args.g c.args.records.now c.args.magazines.now c.if-magazines-g.false
+          (sym c.count_words.ensures.all ∙ c.if-count_words.false));
+      marks = tt;
+    }

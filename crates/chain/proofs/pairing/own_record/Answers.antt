@@ -37,11 +37,13 @@ loop-j-preserved c =
 pub returns-then-names-eq1 : goal.returns-then-names-eq1
 returns-then-names-eq1 c =
     let e : c.loop-j.j ≡ c.args.g.count = omega arith in
-    let f = subst (λ (k : ℕ). Found (address_word c.args.g.format c.args.records.now) (buffer_address c.args.g c.args.i) k c.loop-j.names c.loop-j.last) e c.loop-j.invariant.1.1 in
+    let f = subst (λ (k : ℕ). Found (address_word c.args.g.format c.args.records.now)
+    (buffer_address c.args.g c.args.i) k c.loop-j.names c.loop-j.last) e c.loop-j.invariant.1.1 in
     sym (found_one c.args.g c.args.records.now c.args.i c.loop-j.names c.loop-j.last f c.if-names-eq1.true)
 
 pub returns : goal.returns
 returns c =
     let e : c.loop-j.j ≡ c.args.g.count = omega arith in
-    let f = subst (λ (k : ℕ). Found (address_word c.args.g.format c.args.records.now) (buffer_address c.args.g c.args.i) k c.loop-j.names c.loop-j.last) e c.loop-j.invariant.1.1 in
+    let f = subst (λ (k : ℕ). Found (address_word c.args.g.format c.args.records.now)
+    (buffer_address c.args.g c.args.i) k c.loop-j.names c.loop-j.last) e c.loop-j.invariant.1.1 in
     sym (found_other c.args.g c.args.records.now c.args.i c.loop-j.names c.loop-j.last f c.if-names-eq1.false)

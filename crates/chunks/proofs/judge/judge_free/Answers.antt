@@ -21,7 +21,9 @@ returns-in-At c =
     rw (← c.turn4.ensures, ← c.difference_by_eights-fill.ensures, c.in-At.is) c.tell.ensures
 
 -- the fill has no difference
-fill_same : (c : In_default) → difference (part c.args.chunk.now 0 (buffer_size c.args.chunk.now)) (repeated (buffer_size c.args.chunk.now) (word_bytes c.args.f free_fill)) ≡ Nowhere
+fill_same : (c : In_default) →
+    let n = buffer_size c.args.chunk.now in
+    difference (part c.args.chunk.now 0 n) (repeated n (word_bytes c.args.f free_fill)) ≡ Nowhere
 fill_same c = rw (← c.turn4.ensures, ← c.difference_by_eights-fill.ensures) c.in_default.is
 
 -- the difference lies in the redzone
@@ -31,12 +33,22 @@ zone_inside c = run-within _ _ _ _ (omega arith) _ _ c.two_words_difference-zone
 pub returns-in-At-zone : goal.returns-in-At-zone
 unfolding free_verdict
 returns-in-At-zone c =
-    rw (fill_same (goal.at.returns-in-At-zone c).In_default, ← c.turn4-2.ensures, ← c.two_words_difference-zone.ensures, c.in-At-zone.is) c.tell-in-At-zone.ensures
+    rw (
+      fill_same (goal.at.returns-in-At-zone c).In_default,
+      ← c.turn4-2.ensures,
+      ← c.two_words_difference-zone.ensures,
+      c.in-At-zone.is,
+    ) c.tell-in-At-zone.ensures
 
 pub returns-in-Nowhere : goal.returns-in-Nowhere
 unfolding free_verdict
 returns-in-Nowhere c =
-    rw (fill_same (goal.at.returns-in-Nowhere c).In_default, ← c.turn4-2.ensures, ← c.two_words_difference-zone.ensures, c.in-Nowhere.is) c.tell-in-Nowhere.ensures
+    rw (
+      fill_same (goal.at.returns-in-Nowhere c).In_default,
+      ← c.turn4-2.ensures,
+      ← c.two_words_difference-zone.ensures,
+      c.in-Nowhere.is,
+    ) c.tell-in-Nowhere.ensures
 
 pub overflow_add-size : goal.overflow_add-size
 overflow_add-size c = omega (arith, zone_inside (goal.at.overflow_add-size c).In-At-zone)

@@ -13,7 +13,8 @@ use Rattle.client.proofs.store.store.Goals as goal
 
 -- the buffer is held, and the bytes lie in the client's
 known : (c : In-Buffer) → let p = c.in-Buffer.p in
-    HeldAt c.args.profile (areas c.args.sheet.now c.args.heap.now c.args.records.now) c.args.address p × (c.args.offset + length c.args.bytes.now ≤ client_size p)
+    HeldAt c.args.profile (areas c.args.sheet.now c.args.heap.now c.args.records.now) c.args.address p
+    × (c.args.offset + length c.args.bytes.now ≤ client_size p)
 known c = store_known _ _ _ _ _ _ (sym c.plan-planned.ensures ∙ c.in-Buffer.is)
 
 pub overflow_add-at : goal.overflow_add-at
@@ -35,7 +36,8 @@ returns-in-Buffer c =
 
 pub client_place-at-requires : goal.client_place-at-requires
 unfolding store_of
-client_place-at-requires c = let k = (known (goal.at.client_place-at-requires c).In-Buffer).0.held.within in record { lawful = k.opened.law; buffer_lt_count = k.buffer }
+client_place-at-requires c =
+    let k = (known (goal.at.client_place-at-requires c).In-Buffer).0.held.within in record { lawful = k.opened.law; buffer_lt_count = k.buffer }
 
 pub returns-in-Refused : goal.returns-in-Refused
 unfolding store_of

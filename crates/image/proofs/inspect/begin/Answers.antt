@@ -26,7 +26,8 @@ mark_first-marked-requires c =
 
 pub returns-then-rows-g : goal.returns-then-rows-g
 returns-then-rows-g c =
-    begins_short c.args.profile (areas c.args.sheet.now c.args.heap.now c.args.records.now) c.args.magazines.now c.args.rows _ c.in-Sheet.g (opens (goal.at.returns-then-rows-g c).In-Sheet) c.in-Chain.walked
+    begins_short c.args.profile (areas c.args.sheet.now c.args.heap.now c.args.records.now) c.args.magazines.now c.args.rows _ c.in-Sheet.g
+    (opens (goal.at.returns-then-rows-g c).In-Sheet) c.in-Chain.walked
     (sym c.mark_first-marked.ensures.marked ∙ c.in-Chain.is) c.if-rows-g.true
 
 pub returns-in-Refused : goal.returns-in-Refused
@@ -36,7 +37,8 @@ returns-in-Refused c =
 
 pub returns-in-Refused-marked : goal.returns-in-Refused-marked
 returns-in-Refused-marked c =
-    begins_unlisted c.args.profile (areas c.args.sheet.now c.args.heap.now c.args.records.now) c.args.magazines.now c.args.rows _ c.in-Sheet.g (opens (goal.at.returns-in-Refused-marked c).In-Sheet) c.in-Refused-marked.why
+    begins_unlisted c.args.profile (areas c.args.sheet.now c.args.heap.now c.args.records.now) c.args.magazines.now c.args.rows _ c.in-Sheet.g
+    (opens (goal.at.returns-in-Refused-marked c).In-Sheet) c.in-Refused-marked.why
     (sym c.mark_first-marked.ensures.marked ∙ c.in-Refused-marked.is)
 
 pub returns-else-rows-g : goal.returns-else-rows-g
@@ -44,6 +46,7 @@ returns-else-rows-g c =
     let g = c.in-Sheet.g in
     let bytes = take g.count c.mark_first-marked.new.marks in
     let marks = marks_in g c.args.records.now c.args.magazines.now in
-    begins_image c.args.profile (areas c.args.sheet.now c.args.heap.now c.args.records.now) c.args.magazines.now c.args.rows _ g (opens (goal.at.returns-else-rows-g c).In-Sheet) c.in-Chain.walked
+    begins_image c.args.profile (areas c.args.sheet.now c.args.heap.now c.args.records.now) c.args.magazines.now c.args.rows _ g
+    (opens (goal.at.returns-else-rows-g c).In-Sheet) c.in-Chain.walked
     (sym c.mark_first-marked.ensures.marked ∙ c.in-Chain.is) c.if-rows-g.false
     (subst (λ (r : Marked). MarksIf r bytes marks) c.in-Chain.is c.mark_first-marked.ensures.marks)

@@ -15,7 +15,13 @@ pub slice_bounds-judge_buffer-end : goal.slice_bounds-judge_buffer-end
 slice_bounds-judge_buffer-end c = sym (long (goal.at.slice_bounds-judge_buffer-end c).Start)
 
 pub judge_buffer-requires : goal.judge_buffer-requires
-judge_buffer-requires c = record { fact = c.requires.judges_image.opens; i_lt_count = c.requires.i_lt_count; marks_value = c.requires.judges_image.marked; ending_value = c.requires.judges_image.ends }
+judge_buffer-requires c =
+    record {
+      fact = c.requires.judges_image.opens;
+      i_lt_count = c.requires.i_lt_count;
+      marks_value = c.requires.judges_image.marked;
+      ending_value = c.requires.judges_image.ends;
+    }
 
 pub returns : goal.returns
 returns c = c.of.ensures ∙ ap of_told c.judge_buffer.ensures ∙ told_back _

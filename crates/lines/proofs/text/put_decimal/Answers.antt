@@ -23,5 +23,6 @@ put-requires c =
 pub returns : goal.returns
 returns c =
     let short = decimal_short (suc c.args.n) c.args.n 19 (omega (arith, c.ranges.n.fits)) in
-    let v = subst (λ (x : List ℕ). Wrote c.args.output.now c.args.at x c.put.new.output c.put.result) (text_is (goal.at.returns c).After-decimal-k) c.put.ensures in
+    let v = subst (λ (x : List ℕ). Wrote c.args.output.now c.args.at x c.put.new.output c.put.result)
+    (text_is (goal.at.returns c).After-decimal-k) c.put.ensures in
     record { put = v; short = omega (arith, v.ends, short) }

@@ -9,7 +9,11 @@ use Rattle.places.proofs.heap.write_granted.Goals as goal
 
 pub write_granted-requires : goal.write_granted-requires
 write_granted-requires c =
-    record { chunk_length = lent-lawful _ _ _ _ c.requires.lawful c.requires.heap_len c.requires.i_lt_count c.chunk_place-at.ensures; grant_value = ap (λ (n : ℕ). lawful_size c.args.g.format.profile n c.args.grant) (lent_size _ _ _ _ c.requires.lawful c.requires.heap_len c.requires.i_lt_count c.chunk_place-at.ensures) ∙ c.requires.grant_value }
+    record {
+      chunk_length = lent-lawful _ _ _ _ c.requires.lawful c.requires.heap_len c.requires.i_lt_count c.chunk_place-at.ensures;
+      grant_value = ap (λ (n : ℕ). lawful_size c.args.g.format.profile n c.args.grant)
+          (lent_size _ _ _ _ c.requires.lawful c.requires.heap_len c.requires.i_lt_count c.chunk_place-at.ensures) ∙ c.requires.grant_value;
+    }
 
 pub returns : goal.returns
 returns c =

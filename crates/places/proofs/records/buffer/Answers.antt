@@ -6,4 +6,7 @@ use Rattle.places.proofs.records.buffer.Goals as goal
 
 pub read-requires : goal.read-requires
 read-requires c =
-    record { record_in = record_in c.args.g c.args.j _ c.requires.records_len c.requires.j_lt_count; offset_bound = omega (arith, record_least c.args.g.format.profile) }
+    record {
+      record_in = record_in c.args.g c.args.j _ c.requires.records_len c.requires.j_lt_count;
+      offset_bound = omega (arith, record_least c.args.g.format.profile);
+    }

@@ -19,5 +19,6 @@ returns-in-Refused c =
 pub returns-in-Sheet : goal.returns-in-Sheet
 returns-in-Sheet c =
     c.report_image.ensures
-    ∙ sym (report_opened c.args.profile (areas c.args.sheet.now c.args.heap.now c.args.records.now) c.args.magazines.now (length c.args.log.now) c.args.output.now _
+    ∙ sym (report_opened c.args.profile (areas c.args.sheet.now c.args.heap.now c.args.records.now) c.args.magazines.now
+    (length c.args.log.now) c.args.output.now _
     (sym c.open_with_log-opened.ensures ∙ c.in-Sheet.is))

@@ -12,9 +12,11 @@ report_walked-requires c =
 
 pub returns-in-Refused : goal.returns-in-Refused
 returns-in-Refused c =
-    sym (image_refused (image_listed c.args.g c.args.heap.now c.args.records.now c.args.magazines.now) c.args.output.now _ (sym c.mark-marked.ensures.marked ∙ c.in-Refused.is))
+    sym (image_refused (image_listed c.args.g c.args.heap.now c.args.records.now c.args.magazines.now) c.args.output.now _
+    (sym c.mark-marked.ensures.marked ∙ c.in-Refused.is))
 
 pub returns-in-Chain : goal.returns-in-Chain
 returns-in-Chain c =
     c.report_walked.ensures
-    ∙ sym (image_reported (image_listed c.args.g c.args.heap.now c.args.records.now c.args.magazines.now) c.args.output.now _ (sym c.mark-marked.ensures.marked ∙ c.in-Chain.is))
+    ∙ sym (image_reported (image_listed c.args.g c.args.heap.now c.args.records.now c.args.magazines.now) c.args.output.now _
+    (sym c.mark-marked.ensures.marked ∙ c.in-Chain.is))

@@ -10,7 +10,12 @@ use Rattle.report.proofs.answer.report_walked.Goals as goal
 
 pub write_report-written-requires : goal.write_report-written-requires
 write_report-written-requires c =
-    record { fact = c.requires.fact; marks_value = c.requires.marks_value; met_value = ap (λ (w : Walked). w.met) c.requires.walked_value; ending_value = ap (λ (w : Walked). w.ending) c.requires.walked_value }
+    record {
+      fact = c.requires.fact;
+      marks_value = c.requires.marks_value;
+      met_value = ap (λ (w : Walked). w.met) c.requires.walked_value;
+      ending_value = ap (λ (w : Walked). w.ending) c.requires.walked_value;
+    }
 
 pub overflow_cast-result : goal.overflow_cast-result
 overflow_cast-result c =

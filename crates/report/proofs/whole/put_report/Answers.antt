@@ -31,17 +31,29 @@ loop-i-init c =
       search rules,
       omega (arith, c.put_header-at.ensures.short),
       sym (total-zero (λ (i : ℕ). fault_of (number_of m i))),
-      subst (λ (x : List ℕ). Wrote c.put_header-at.new.output c.put_header-at.result x c.put_header-at.new.output c.put_header-at.result) none (wrote_none c.put_header-at.new.output c.put_header-at.result),
+      subst (λ (x : List ℕ). Wrote c.put_header-at.new.output c.put_header-at.result x c.put_header-at.new.output c.put_header-at.result) none
+          (wrote_none c.put_header-at.new.output c.put_header-at.result),
     )
 
 pub tell_buffers-requires : goal.tell_buffers-requires
 tell_buffers-requires c =
-    record { fact = c.requires.fact; count_bound = search rules; marks_value = c.requires.marks_value; ending_value = c.requires.ending_value; count_in_bounds = search rules }
+    record {
+      fact = c.requires.fact;
+      count_bound = search rules;
+      marks_value = c.requires.marks_value;
+      ending_value = c.requires.ending_value;
+      count_in_bounds = search rules;
+    }
 
 pub put_rows-at-requires : goal.put_rows-at-requires
 put_rows-at-requires c =
     let small = numbers_small (lent (goal.at.put_rows-at-requires c).Start) _ _ _ (omega arith) _ c.tell_buffers.ensures in
-    record { from_bound = omega (arith, c.loop-i.invariant.3, c.requires.fact.law.sizes.few); count_bound = search rules; count_in_bounds = search rules; by_index = small }
+    record {
+      from_bound = omega (arith, c.loop-i.invariant.3, c.requires.fact.law.sizes.few);
+      count_bound = search rules;
+      count_in_bounds = search rules;
+      by_index = small;
+    }
 
 -- the buffers of the batch are those of the image, too
 passed : (c : After-tell_buffers) → c.loop-i.i + c.batch-count.result ≤ 512

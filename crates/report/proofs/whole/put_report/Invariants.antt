@@ -14,7 +14,8 @@ invariant-loop-i l =
     × (length l.rows ≡ 48)
     × (l.at ≤ header_most + l.i * line_most)
     × (l.faults ≡ faults_in (number_of (image l.g l.heap l.records l.magazines)) l.i)
-    × Wrote l.initial.output l.initial.at (lines_of (number_of (image l.g l.heap l.records l.magazines)) (value_of (image l.g l.heap l.records l.magazines)) l.i) l.output l.at
+    × Wrote l.initial.output l.initial.at (lines_of (number_of (image l.g l.heap l.records l.magazines))
+    (value_of (image l.g l.heap l.records l.magazines)) l.i) l.output l.at
 
 abbrev pub decreases-loop-i : goal.decreases-loop-i
 decreases-loop-i l = l.n - l.i

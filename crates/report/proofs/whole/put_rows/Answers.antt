@@ -28,7 +28,11 @@ loop-k-preserved c =
 pub returns : goal.returns
 returns c =
     let e : c.loop-k.k ≡ c.args.count = omega arith in
-    record { put = subst (λ (k : ℕ). Wrote c.args.output.now c.args.from (row_lines c.args.rows.now c.args.first k) c.loop-k.output c.loop-k.at) e c.loop-k.invariant.2; short = omega (arith, c.loop-k.invariant.1) }
+    record {
+      put = subst (λ (k : ℕ). Wrote c.args.output.now c.args.from
+          (row_lines c.args.rows.now c.args.first k) c.loop-k.output c.loop-k.at) e c.loop-k.invariant.2;
+      short = omega (arith, c.loop-k.invariant.1);
+    }
 
 pub shape_of-output : goal.shape_of-output
 shape_of-output c = c.loop-k.invariant.2.long

@@ -11,7 +11,8 @@ use Rattle.runs.proofs.run.difference_by_bytes.Goals as goal
 
 pub returns-then-s-at : goal.returns-then-s-at
 returns-then-s-at c =
-    sym (run_differs _ _ _ _ (omega arith) _ (omega arith) c.loop-i.invariant.2 (λ e. c.if-s-at.true (e ∙ ap (λ (x : List ℕ). get_or x (c.loop-i.i % 4) 0) (sym c.loop-i.invariant.0))))
+    sym (run_differs _ _ _ _ (omega arith) _ (omega arith) c.loop-i.invariant.2
+    (λ e. c.if-s-at.true (e ∙ ap (λ (x : List ℕ). get_or x (c.loop-i.i % 4) 0) (sym c.loop-i.invariant.0))))
 
 pub loop-i-preserved : goal.loop-i-preserved
 loop-i-preserved c =

@@ -29,7 +29,10 @@ known c = (logged_known _ _ _ _ _ _ (sym c.open_with_log-opened.ensures ∙ c.in
 
 pub fill_table-marked-requires : goal.fill_table-marked-requires
 fill_table-marked-requires c =
-    record { fact = known (goal.at.fill_table-marked-requires c).In-Sheet; count_in_bounds = λ t. (room_known c.in-Sheet.g.count (length c.args.rows.now) (length c.args.chain.now) (sym c.has_room-room.ensures ∙ t)).0 }
+    record {
+      fact = known (goal.at.fill_table-marked-requires c).In-Sheet;
+      count_in_bounds = λ t. (room_known c.in-Sheet.g.count (length c.args.rows.now) (length c.args.chain.now) (sym c.has_room-room.ensures ∙ t)).0;
+    }
 
 -- where the image is open and its table asked for
 module _ (c : After-fill_table-marked) where
@@ -63,13 +66,20 @@ put_chain-requires c =
     let g = sheet (goal.at.put_chain-requires c).After-fill_table-marked in
     let records = c.args.records.now in
     let z = (known (goal.at.put_chain-requires c).In-Sheet).law.sizes in
-    let k = table_known (judged (goal.at.put_chain-requires c).After-fill_table-marked) _ _ _ _ _ (tabled (goal.at.put_chain-requires c).After-fill_table-marked) c.in-Chain.is in
+    let k = table_known (judged (goal.at.put_chain-requires c).After-fill_table-marked) _ _ _ _ _
+    (tabled (goal.at.put_chain-requires c).After-fill_table-marked) c.in-Chain.is in
     let met = ap (λ (w : Walked). w.met) k.1 in
-    let ends = ap (λ (w : Walked). w.ending) k.1 in record { in_bounds = (room_known g.count _ _ k.0).1; met_bound = omega (arith, met, chain_short g records, z.few); e_bound = subst (λ (x : Ending). ending_value x < 4294967296) (sym ends) (omega (arith, ending_below g records z, z.few)) }
+    let ends = ap (λ (w : Walked). w.ending) k.1 in
+    record {
+      in_bounds = (room_known g.count _ _ k.0).1;
+      met_bound = omega (arith, met, chain_short g records, z.few);
+      e_bound = subst (λ (x : Ending). ending_value x < 4294967296) (sym ends) (omega (arith, ending_below g records z, z.few));
+    }
 
 pub returns-in-Chain : goal.returns-in-Chain
 returns-in-Chain c =
-    ap (numbering (Value (sheet (goal.at.returns-in-Chain c).After-fill_table-marked).count) (rows-after (goal.at.returns-in-Chain c).After-fill_table-marked)) c.put_chain.ensures ∙ answers (goal.at.returns-in-Chain c).After-fill_table-marked _ c.in-Chain.is
+    let p = (goal.at.returns-in-Chain c).After-fill_table-marked in
+    ap (numbering (Value (sheet p).count) (rows-after p)) c.put_chain.ensures ∙ answers p _ c.in-Chain.is
 
 pub has_room-room-requires : goal.has_room-room-requires
 unfolding survey_numbers_of

@@ -13,7 +13,13 @@ use Rattle.survey.proofs.table.fill_marked.Goals as goal
 pub tell_buffers-requires : goal.tell_buffers-requires
 tell_buffers-requires c =
     let k = marks_known _ _ _ _ _ _ c.in-Chain.is c.mark-marked.ensures.marked c.mark-marked.ensures.marks in
-    record { fact = c.requires.fact; count_bound = omega arith; marks_value = k.are; ending_value = ap (λ (w : Walked). w.ending) k.walked; count_in_bounds = c.requires.count_in_bounds c.if-room.true }
+    record {
+      fact = c.requires.fact;
+      count_bound = omega arith;
+      marks_value = k.are;
+      ending_value = ap (λ (w : Walked). w.ending) k.walked;
+      count_in_bounds = c.requires.count_in_bounds c.if-room.true;
+    }
 
 pub returns-then-room : goal.returns-then-room
 unfolding table_of
@@ -24,7 +30,8 @@ returns-then-room c =
 
 pub returns-in-Refused : goal.returns-in-Refused
 returns-in-Refused c =
-    sym (table_refused (image_listed c.args.g c.args.heap.now c.args.records.now c.args.magazines.now) c.args.room c.args.rows.now _ (sym c.mark-marked.ensures.marked ∙ c.in-Refused.is))
+    sym (table_refused (image_listed c.args.g c.args.heap.now c.args.records.now c.args.magazines.now) c.args.room c.args.rows.now _
+    (sym c.mark-marked.ensures.marked ∙ c.in-Refused.is))
 
 pub returns-else-room : goal.returns-else-room
 returns-else-room c =

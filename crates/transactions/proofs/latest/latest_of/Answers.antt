@@ -7,7 +7,12 @@ use Rattle.transactions.proofs.latest.latest_of.Goals as goal
 
 pub latest_owned-requires : goal.latest_owned-requires
 latest_owned-requires c =
-    record { lawful = c.requires.lawful; records_len = c.requires.records_len; j_lt_count = own_below _ _ _ _ (sym c.own_record-own.ensures ∙ c.in-One.is); log_len_bound = c.requires.log_len_bound }
+    record {
+      lawful = c.requires.lawful;
+      records_len = c.requires.records_len;
+      j_lt_count = own_below _ _ _ _ (sym c.own_record-own.ensures ∙ c.in-One.is);
+      log_len_bound = c.requires.log_len_bound;
+    }
 
 pub returns-in-NotOne : goal.returns-in-NotOne
 unfolding indexed_latest

@@ -6,7 +6,8 @@ use Rattle.transactions.proofs.latest.latest_owned.Goals.{After-latest_row-best}
 use Rattle.transactions.proofs.latest.latest_owned.Goals as goal
 
 -- the high half is 0, so that the rows decide
-decided : (c : After-latest_row-best) → owned_latest c.args.g c.args.records.now c.args.log.now c.args.time c.args.j ≡ row_or_record c.latest_row-best.result.row c.args.j
+decided : (c : After-latest_row-best) → owned_latest c.args.g c.args.records.now c.args.log.now c.args.time c.args.j
+    ≡ row_or_record c.latest_row-best.result.row c.args.j
 unfolding owned_latest
 decided c =
     rw (

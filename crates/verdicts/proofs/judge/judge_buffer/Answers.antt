@@ -40,7 +40,8 @@ module _ (s : Start) where
   chunk_lawful =
       let g = s.args.g in
       let k = chunk_inside g s.requires.fact.law s.args.i s.requires.i_lt_count in
-      subst ChunkLength (sym (length_part s.args.heap.now (chunk_place g s.args.i) g.chunk (omega (arith, s.requires.fact.heap_long)))) (chunk_length g s.requires.fact.law)
+      subst ChunkLength (sym (length_part s.args.heap.now (chunk_place g s.args.i) g.chunk (omega (arith, s.requires.fact.heap_long))))
+      (chunk_length g s.requires.fact.law)
 
 -- the tag that is read is the chunk's
 tag_read : (c : After-read_tag-tag) →
@@ -70,7 +71,8 @@ module _ (c : In-At) where
 
 pub returns-then-digits-ne1 : goal.returns-then-digits-ne1
 returns-then-digits-ne1 c =
-    let none = verdict_none (judging (goal.at.returns-then-digits-ne1 c).Start) c.args.i (λ e. c.if-digits-ne1.true (ap (λ (d : Digits). d.names) c.read-digits.ensures ∙ digit (goal.at.returns-then-digits-ne1 c).Start ∙ e)) in
+    let none = verdict_none (judging (goal.at.returns-then-digits-ne1 c).Start) c.args.i
+    (λ e. c.if-digits-ne1.true (ap (λ (d : Digits). d.names) c.read-digits.ensures ∙ digit (goal.at.returns-then-digits-ne1 c).Start ∙ e)) in
     c.tell.ensures ∙ ap told_of (sym none)
 
 pub read_tag-tag-requires : goal.read_tag-tag-requires
@@ -85,10 +87,12 @@ pub returns-then-buffer-buffer_address : goal.returns-then-buffer-buffer_address
 returns-then-buffer-buffer_address c =
     let r = c.args.records.now in
     let other =
-    verdict_other (judging (goal.at.returns-then-buffer-buffer_address c).Start) c.args.i (one_names (goal.at.returns-then-buffer-buffer_address c).After-read_tag-tag)
+    verdict_other (judging (goal.at.returns-then-buffer-buffer_address c).Start) c.args.i
+    (one_names (goal.at.returns-then-buffer-buffer_address c).After-read_tag-tag)
     (λ j l w e.
     let f = c.args.g.format.profile in
-    let same = address_one c.args.g.record_base (record_size f) (index (goal.at.returns-then-buffer-buffer_address c).In-At) j (omega (arith, record_least f)) (sym (found (goal.at.returns-then-buffer-buffer_address c).In-At).1 ∙ e) in
+    let same = address_one c.args.g.record_base (record_size f) (index (goal.at.returns-then-buffer-buffer_address c).In-At) j (omega (arith, record_least f))
+    (sym (found (goal.at.returns-then-buffer-buffer_address c).In-At).1 ∙ e) in
     c.if-buffer-buffer_address.true (c.buffer.ensures ∙ ap (address_word c.args.g.format r) same ∙ w ∙ sym c.buffer_address.ensures)) in
     c.tell-then-buffer-buffer_address.ensures ∙ ap told_of (sym other)
 
@@ -117,13 +121,16 @@ returns-else-buffer-buffer_address c =
     let r = c.args.records.now in
     let l = c.args.magazines.now in
     let tag = tag_read (goal.at.returns-else-buffer-buffer_address c).After-read_tag-tag in
-    let met = ap (λ (d : Digits). d.met) c.read.ensures ∙ marks_met g r l c.args.marks.now c.requires.marks_value (index (goal.at.returns-else-buffer-buffer_address c).In-At) (found (goal.at.returns-else-buffer-buffer_address c).In-At).0 in
+    let met = ap (λ (d : Digits). d.met) c.read.ensures
+    ∙ marks_met g r l c.args.marks.now c.requires.marks_value (index (goal.at.returns-else-buffer-buffer_address c).In-At)
+    (found (goal.at.returns-else-buffer-buffer_address c).In-At).0 in
     let again = c.again_at.ensures ∙ ap (λ (e : Ending). again_at e (index (goal.at.returns-else-buffer-buffer_address c).In-At)) c.requires.ending_value in
     let listed =
     ap (λ (d : Digits). d.listed) c.read-digits.ensures
     ∙ marks_listed g r l c.args.marks.now c.requires.marks_value c.args.i c.requires.i_lt_count in
     let one =
-    verdict_one (judging (goal.at.returns-else-buffer-buffer_address c).Start) c.args.i (index (goal.at.returns-else-buffer-buffer_address c).In-At) (one_names (goal.at.returns-else-buffer-buffer_address c).After-read_tag-tag) (found (goal.at.returns-else-buffer-buffer_address c).In-At).0
+    verdict_one (judging (goal.at.returns-else-buffer-buffer_address c).Start) c.args.i (index (goal.at.returns-else-buffer-buffer_address c).In-At)
+    (one_names (goal.at.returns-else-buffer-buffer_address c).After-read_tag-tag) (found (goal.at.returns-else-buffer-buffer_address c).In-At).0
     (sym c.buffer.ensures ∙ c.if-buffer-buffer_address.false ∙ c.buffer_address.ensures) (found (goal.at.returns-else-buffer-buffer_address c).In-At).1 in
     c.judge_chained.ensures
     ∙ ap told_of ((λ x. chained_verdict g.format (c.chunk-chunk.ensures x) (pattern_of (tag x)) (standing (met x) (again x) (listed x)))

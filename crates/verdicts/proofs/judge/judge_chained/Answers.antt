@@ -30,23 +30,41 @@ allocated_off c = sym c.is_freed_twice-then-is_allocated.ensures ∙ c.if-is_fre
 pub returns-then-is_at_rest : goal.returns-then-is_at_rest
 unfolding chained_verdict
 returns-then-is_at_rest c =
-    rw (free (goal.at.returns-then-is_at_rest c).Then-is_free, free_off (goal.at.returns-then-is_at_rest c).Else-is_freed_twice, sym c.is_at_rest.ensures ∙ c.if-is_at_rest.true)
+    rw (
+      free (goal.at.returns-then-is_at_rest c).Then-is_free,
+      free_off (goal.at.returns-then-is_at_rest c).Else-is_freed_twice,
+      sym c.is_at_rest.ensures
+          ∙ c.if-is_at_rest.true,
+    )
     (c.judge_rest.ensures (free_verdict _ _) c.judge_free.ensures)
 
 pub returns-then-is_free : goal.returns-then-is_free
 unfolding chained_verdict
 returns-then-is_free c =
-    rw (free (goal.at.returns-then-is_free c).Then-is_free, free_off (goal.at.returns-then-is_free c).Else-is_freed_twice, sym c.is_at_rest.ensures ∙ c.if-is_at_rest.false) c.tell-then-is_free.ensures
+    rw (
+      free (goal.at.returns-then-is_free c).Then-is_free,
+      free_off (goal.at.returns-then-is_free c).Else-is_freed_twice,
+      sym c.is_at_rest.ensures
+          ∙ c.if-is_at_rest.false,
+    ) c.tell-then-is_free.ensures
 
 pub returns-then-is_at_rest-2 : goal.returns-then-is_at_rest-2
 unfolding chained_verdict
 returns-then-is_at_rest-2 c =
-    rw (allocated (goal.at.returns-then-is_at_rest-2 c).Then-is_allocated, allocated_off (goal.at.returns-then-is_at_rest-2 c).Else-is_freed_twice-2, sym c.is_at_rest-then-is_allocated.ensures ∙ c.if-is_at_rest-2.true) c.tell-then-is_at_rest-2.ensures
+    rw (
+      allocated (goal.at.returns-then-is_at_rest-2 c).Then-is_allocated,
+      allocated_off (goal.at.returns-then-is_at_rest-2 c).Else-is_freed_twice-2,
+      sym c.is_at_rest-then-is_allocated.ensures ∙ c.if-is_at_rest-2.true,
+    ) c.tell-then-is_at_rest-2.ensures
 
 pub returns-then-is_allocated : goal.returns-then-is_allocated
 unfolding chained_verdict allocated_verdict
 returns-then-is_allocated c =
-    rw (allocated (goal.at.returns-then-is_allocated c).Then-is_allocated, allocated_off (goal.at.returns-then-is_allocated c).Else-is_freed_twice-2, sym c.is_at_rest-then-is_allocated.ensures ∙ c.if-is_at_rest-2.false)
+    rw (
+      allocated (goal.at.returns-then-is_allocated c).Then-is_allocated,
+      allocated_off (goal.at.returns-then-is_allocated c).Else-is_freed_twice-2,
+      sym c.is_at_rest-then-is_allocated.ensures ∙ c.if-is_at_rest-2.false,
+    )
     (c.judge_header.ensures (coded_verdict _ _) c.judge_coded-t.ensures)
 
 pub returns : goal.returns
@@ -55,8 +73,14 @@ returns c = rw (neither (goal.at.returns c).Else-is_allocated) c.tell-2.ensures
 
 pub returns-then-is_freed_twice : goal.returns-then-is_freed_twice
 unfolding chained_verdict
-returns-then-is_freed_twice c = rw (free (goal.at.returns-then-is_freed_twice c).Then-is_free, sym c.is_freed_twice.ensures ∙ c.if-is_freed_twice.true) c.tell.ensures
+returns-then-is_freed_twice c =
+    rw (free (goal.at.returns-then-is_freed_twice c).Then-is_free, sym c.is_freed_twice.ensures ∙ c.if-is_freed_twice.true) c.tell.ensures
 
 pub returns-then-is_freed_twice-2 : goal.returns-then-is_freed_twice-2
 unfolding chained_verdict
-returns-then-is_freed_twice-2 c = rw (allocated (goal.at.returns-then-is_freed_twice-2 c).Then-is_allocated, sym c.is_freed_twice-then-is_allocated.ensures ∙ c.if-is_freed_twice-2.true) c.tell-then-is_freed_twice-2.ensures
+returns-then-is_freed_twice-2 c =
+    rw (
+      allocated (goal.at.returns-then-is_freed_twice-2 c).Then-is_allocated,
+      sym c.is_freed_twice-then-is_allocated.ensures
+          ∙ c.if-is_freed_twice-2.true,
+    ) c.tell-then-is_freed_twice-2.ensures

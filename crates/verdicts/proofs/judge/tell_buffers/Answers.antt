@@ -14,7 +14,12 @@ use Rattle.verdicts.proofs.judge.tell_buffers.Goals as goal
 
 pub judge_buffer-t-requires : goal.judge_buffer-t-requires
 judge_buffer-t-requires c =
-    record { fact = c.requires.fact; i_lt_count = omega (arith, c.requires.count_bound); marks_value = c.requires.marks_value; ending_value = c.requires.ending_value }
+    record {
+      fact = c.requires.fact;
+      i_lt_count = omega (arith, c.requires.count_bound);
+      marks_value = c.requires.marks_value;
+      ending_value = c.requires.ending_value;
+    }
 
 pub put_row-requires : goal.put_row-requires
 put_row-requires c =

@@ -10,7 +10,8 @@ use Rattle.verdicts.proofs.judge.tell_buffers.Given as goal
 
 abbrev pub invariant-loop-k : goal.invariant-loop-k
 invariant-loop-k l =
-    (l.k ≤ l.count) × (length l.rows ≡ length l.initial.rows) × (l.rows ≡ sets l.initial.rows 0 (flat l.k (row (image l.g l.heap l.records l.magazines) l.from)))
+    (l.k ≤ l.count) × (length l.rows ≡ length l.initial.rows)
+    × (l.rows ≡ sets l.initial.rows 0 (flat l.k (row (image l.g l.heap l.records l.magazines) l.from)))
 
 abbrev pub decreases-loop-k : goal.decreases-loop-k
 decreases-loop-k l = l.count - l.k
