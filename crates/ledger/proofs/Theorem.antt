@@ -163,7 +163,7 @@ module _ (g : Sheet) (laid : Laid g) where
         nobody = λ call n. (ap (λ (r : Result Answer). r.answer) (nobody g laid v call n), nobody-same g laid call w n f);
       }
 
--- the theorem of "The ledger of demand 3"
+-- the claim of the ledger (B6 to B13)
 pub theorem : Claim
 theorem a f cache heap records size n h e calls =
     let k = accepted a f cache heap records size n e in

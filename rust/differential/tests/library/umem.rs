@@ -1,5 +1,5 @@
-//! The two dumps of source document 003, stored in hexadecimal: the buffer at 0x49fc0, out
-//! on a request of 10, and out on one of 16 and overrun.
+//! The two printed dumps of libumem, stored in hexadecimal: the buffer at 0x49fc0, out on a
+//! request of 10, and out on one of 16 and overrun.
 
 use combgallop::{Grant, Profile};
 use differential::samples::from_hex;

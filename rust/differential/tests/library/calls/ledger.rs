@@ -12,7 +12,7 @@ use super::call::{Call, Numbers};
 use super::twin::Twin;
 use crate::expected::expected_profile;
 
-/// "Allocate and free don't use magazines, so demand 3 reads with an empty list."
+/// The calls and the ledger have no magazine list (M6).
 const NO_MAGAZINES: &[u32] = &[];
 
 /// What a granted buffer's client has.
