@@ -66,6 +66,7 @@ fn missing(c: u32) -> u32
 }
 
 // Whether a buffer starts with the header of a coded size, and that is one of a request.
+#[tactic(auto, unfolding(crate::specs::Header::header_right))]
 pub(crate) fn is_right(f: Format, buffer: &[u8], c: u32) -> bool
     requires { 8 ≤ length buffer.now }
     ensures { result ≡ header_right f buffer.now c }
