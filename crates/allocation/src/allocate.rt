@@ -1,33 +1,22 @@
 // Allocate: a plan that only reads, and a commit that cannot fail.
-ghost use Rattle.std.specs.Prelude.{◌≡◌, length};
-ghost use Rattle.tags.specs.Verdict.{told_of};
-ghost use Rattle.tags.specs.declared.verdict.Verdict.{Verdict};
+ghost use Rattle.std.specs.Prelude.{◌≡◌, length, IfOk};
 ghost use Rattle.chunks.specs.Chunk.{lawful_size};
-ghost use Rattle.sheet.specs.Areas.{areas, by_lengths, outcome, image_in};
 ghost use Rattle.geometry.specs.Limits.{Lawful};
-ghost use Rattle.sheet.specs.Opening.{Open};
-ghost use Rattle.allocation.specs.Allocate.{if_free, taken_chunk, taken_head, taken_of, allocate_plan, Takes, granted_areas, allocate_of};
+ghost use Rattle.sheet.specs.Areas.{by_lengths, outcome};
+ghost use Rattle.sheet.specs.Lent.{seen, lent, image_open, Call};
+ghost use Rattle.allocation.specs.Allocate.{taken_chunk, taken_head, taken_of, allocate_plan, Takes, granted_areas, allocate_of};
 
-use area::place::Place;
 use area::record::Stamp;
 use chunks::chunk::Grant;
 use chunks::{chunk, header, judge};
-use geometry::sheet::Sheet;
 use places::spot::Spot;
 use places::{heap, records};
-use sheet::opening::Opened;
+use sheet::lent::{Image, ImageMut};
+use sheet::open_image::OpenImage;
 use sheet::{fields, opening};
 use tags::format::Profile;
-use tags::refusal::{Answer, Refusal};
-use tags::verdict;
-use tags::verdict::{Told, Verdict};
-
-// What an allocation will do.
-#[derive(Clone, Copy)]
-pub enum AllocatePlan {
-    Take(Spot),
-    Refused(Refusal),
-}
+use tags::refusal::Refusal;
+use tags::verdict::Verdict;
 
 // Whether a request is of lawful size.
 fn lawful_size(p: Profile, grant: Grant, size: usize) -> bool
@@ -35,145 +24,110 @@ fn lawful_size(p: Profile, grant: Grant, size: usize) -> bool
 {
     match grant {
         Grant::Whole => true,
-        Grant::Sized(q) => {
-            if q < 1 {
-                return false;
-            }
-            q as usize <= header::request_most(p, size)
-        }
+        Grant::Sized(q) => 1 <= q && q as usize <= header::request_most(p, size),
     }
 }
 
-// A chunk that is found free is taken, and any other verdict refuses.
-fn if_free(t: Told, p: Spot) -> AllocatePlan
-    ensures { ((v : Verdict) → t ≡ told_of v → result ≡ if_free v p) }
+// The last step: the chunk of the head record's buffer. One that is found free is taken.
+#[tactic(auto, using(tags::proofs::Verdicts::told_back, tags::proofs::Tags::is_free_lem), unfolding(crate::specs::Allocate::taken_chunk))]
+fn take_chunk(chunk: &[u8], spot: Spot) -> Result<Spot, Refusal>
+    requires chunk_len { length chunk.now ≡ spot.sheet.chunk }
+    requires lawful { Lawful spot.sheet }
+    ensures { result ≡ taken_chunk chunk.now spot }
 {
-    if t.number == 0 {
-        return AllocatePlan::Take(p);
-    }
-    AllocatePlan::Refused(Refusal::Damage(verdict::of(t)))
-}
-
-// The last step: the chunk of the head record's buffer.
-fn take_chunk(chunk: &[u8], p: Spot) -> AllocatePlan
-    requires chunk_len { length chunk.now ≡ p.sheet.chunk }
-    requires lawful { Lawful p.sheet }
-    ensures { result ≡ taken_chunk chunk.now p }
-{
-    let g = p.sheet;
-    let f = g.format;
+    let f = spot.sheet.format;
     let tag = chunk::read_tag(f, chunk);
-    if tag.t0 != g.head {
-        return AllocatePlan::Refused(Refusal::Damage(Verdict::BadTag));
+    if tag.t0 != spot.sheet.head {
+        return Err(Refusal::Damage(Verdict::BadTag));
     }
-    if tag.is_free() {
-        return if_free(judge::judge_free(f, chunk), p);
+    // Two tests: a match on the pattern was slower, by seven instructions in every call.
+    if !tag.is_free() {
+        let found = if tag.is_allocated() {
+            Verdict::OnChain
+        } else {
+            Verdict::BadTag
+        };
+        return Err(Refusal::Damage(found));
     }
-    if tag.is_allocated() {
-        return AllocatePlan::Refused(Refusal::Damage(Verdict::OnChain));
+    match Verdict::from(judge::judge_free(f, chunk)) {
+        Verdict::Free => Ok(spot),
+        found => Err(Refusal::Damage(found)),
     }
-    AllocatePlan::Refused(Refusal::Damage(Verdict::BadTag))
 }
 
 // The step before it: the head must be a record's address, and that record's word a buffer's.
-fn take_head(heap: &[u8], records: &[u8], g: Sheet) -> AllocatePlan
-    requires { Open (length heap.now) (length records.now) g }
-    ensures { result ≡ taken_head (image_in g heap.now records.now) }
+#[tactic(auto, unfolding(crate::specs::Allocate::taken_head))]
+fn take_head(image: &OpenImage) -> Result<Spot, Refusal>
+    ensures { result ≡ taken_head (image_open image.now) }
 {
-    let head = g.find_record(g.head);
-    let Place::At(own) = head else {
-        return AllocatePlan::Refused(Refusal::BrokenHead);
+    let g = image.sheet;
+    let Some(own) = g.find_record(g.head) else {
+        return Err(Refusal::BrokenHead);
     };
-    let named = g.find_buffer(records::buffer(records, g, own));
-    let Place::At(buffer) = named else {
-        return AllocatePlan::Refused(Refusal::Damage(Verdict::NotOneRecord));
+    let Some(buffer) = g.find_buffer(records::buffer(image.records, g, own)) else {
+        return Err(Refusal::Damage(Verdict::NotOneRecord));
     };
-    let p = Spot {
+    let spot = Spot {
         sheet: g,
         buffer,
         own,
     };
-    take_chunk(heap::chunk(heap, g, buffer), p)
+    take_chunk(heap::chunk(image.heap, g, buffer), spot)
 }
 
 // What an allocation of an open image will do.
-fn take(heap: &[u8], records: &[u8], g: Sheet, grant: Grant) -> AllocatePlan
-    requires { Open (length heap.now) (length records.now) g }
-    ensures { result ≡ taken_of (image_in g heap.now records.now) grant }
+#[tactic(auto, unfolding(crate::specs::Allocate::taken_of))]
+fn take(image: &OpenImage, grant: Grant) -> Result<Spot, Refusal>
+    ensures { result ≡ taken_of (image_open image.now) grant }
 {
-    let f = g.format;
-    let p = f.profile;
-    if lawful_size(p, grant, g.size) {
-        if g.head == 0 {
-            return AllocatePlan::Refused(Refusal::NoRoom);
-        }
-        return take_head(heap, records, g);
+    let g = image.sheet;
+    if !lawful_size(g.format.profile, grant, g.size) {
+        return Err(Refusal::BadSize);
     }
-    AllocatePlan::Refused(Refusal::BadSize)
+    if g.head == 0 {
+        return Err(Refusal::NoRoom);
+    }
+    take_head(image)
 }
 
 // What an allocation will do. It only reads.
-fn plan(
-    profile: Profile,
-    sheet: &[u8],
-    heap: &[u8],
-    records: &[u8],
-    grant: Grant,
-    thread: u32,
-) -> AllocatePlan
-    ensures { result ≡ allocate_plan profile (areas sheet.now heap.now records.now) grant thread }
+#[tactic(auto, unfolding(crate::specs::Allocate::allocate_plan))]
+fn plan(profile: Profile, image: &Image, grant: Grant, thread: u32) -> Result<Spot, Refusal>
+    ensures spot { result ≡ allocate_plan profile (seen image.now) grant thread }
+    ensures within { IfOk result (by_lengths Takes (seen image.now) grant) }
 {
-    let opened = opening::open(profile, sheet, heap.len(), records.len());
-    match opened {
-        Opened::Refused(why) => AllocatePlan::Refused(why),
-        Opened::Sheet(g) => {
-            if thread == 0 {
-                return AllocatePlan::Refused(Refusal::NoThread);
-            }
-            take(heap, records, g, grant)
-        }
+    let image = opening::open_image(profile, image)?;
+    if thread == 0 {
+        return Err(Refusal::NoThread);
     }
+    take(&image, grant)
 }
 
 // Writes what an allocation changes: the chunk, the record's stamp and thread, and the head.
-fn commit(
-    sheet: &mut [u8],
-    heap: &mut [u8],
-    records: &mut [u8],
-    grant: Grant,
-    stamp: Stamp,
-    p: Spot,
-)
-    requires { by_lengths Takes (areas sheet.old heap.old records.old) grant p }
-    ensures { areas sheet.new heap.new records.new
-        ≡ granted_areas (areas sheet.old heap.old records.old) grant stamp p }
+#[tactic(auto, unfolding(crate::specs::Allocate::granted_areas))]
+fn commit(image: &mut ImageMut, grant: Grant, stamp: Stamp, spot: Spot)
+    requires { by_lengths Takes (lent image.old) grant spot }
+    ensures { Call result image.old image.new
+        (outcome result (granted_areas (lent image.old) grant stamp spot)) }
 {
-    let g = p.sheet;
-    let next = records::next(records, g, p.own);
-    heap::write_granted(heap, g, p.buffer, g.head, grant);
-    records::set_stamp(records, g, p.own, stamp);
-    fields::set_head(sheet, next);
+    let g = spot.sheet;
+    let next = records::next(image.view().records, g, spot.own);
+    heap::write_granted(image.heap, g, spot.buffer, g.head, grant);
+    records::set_stamp(image.records, g, spot.own, stamp);
+    fields::set_head(image.sheet, next);
 }
 
 // Grants a buffer and answers its address, or refuses and leaves every byte as it was.
+#[tactic(auto, unfolding(crate::specs::Allocate::allocate_of))]
 pub fn allocate(
     profile: Profile,
-    sheet: &mut [u8],
-    heap: &mut [u8],
-    records: &mut [u8],
+    image: &mut ImageMut,
     grant: Grant,
     stamp: Stamp,
-) -> Answer
-    ensures { outcome result (areas sheet.new heap.new records.new)
-        ≡ allocate_of profile (areas sheet.old heap.old records.old) grant stamp }
+) -> Result<u32, Refusal>
+    ensures { Call result image.old image.new (allocate_of profile (lent image.old) grant stamp) }
 {
-    let planned = plan(profile, sheet, heap, records, grant, stamp.thread);
-    match planned {
-        AllocatePlan::Refused(why) => Answer::Refused(why),
-        AllocatePlan::Take(p) => {
-            commit(sheet, heap, records, grant, stamp, p);
-            let g = p.sheet;
-            Answer::Value(g.buffer_address(p.buffer))
-        }
-    }
+    let spot = plan(profile, &image.view(), grant, stamp.thread)?;
+    commit(image, grant, stamp, spot);
+    Ok(spot.sheet.buffer_address(spot.buffer))
 }

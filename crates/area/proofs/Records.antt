@@ -3,16 +3,14 @@ use mathlib.Core.Path.{◌≡◌, refl, sym, ap, ◌∙◌}
 use mathlib.Core.Logic.{◌≢◌, inl, inr}
 use mathlib.Core.List.{List, ◌++◌}
 use Prim.Native.Nat.{ℕ, ◌+◌, ◌-◌, ◌*◌, ◌%◌, ◌≤◌, ◌<◌}
-use native.Mathlib.Nat.{add-zero}
 use native.Mathlib.Omega.{arith}
-use lib.ListN.{length, replicate, length-append, length-replicate}
+use lib.ListN.{length, replicate, take, drop, length-append, length-replicate, length-take, length-drop}
 use lib.Seq.{sets, length-sets}
+use borrow.Rule.Slice.PartMut.{put_mid}
 use Rattle.words.specs.Word.{part, flat, bytes_of, number, number_at}
-use Rattle.words.specs.Native.{low_bytes}
-use Rattle.runs.specs.Run.{repeated}
-use Rattle.words.proofs.Parts.{sets-next, part-place, part_field, part-part, part_left, part_right, part_all, part_front, part-flat}
+use Rattle.words.proofs.Std.{written}
+use Rattle.words.proofs.Parts.{sets-next, sets-whole, part-lent, part_back, part-place, part_field, part-part, part_left, part_right, part_all, part_front, part-flat}
 use Rattle.words.proofs.Numbers.{length_bytes_of, number_back, number_at_written}
-use Rattle.runs.proofs.Runs.{repeated-none}
 use Rattle.tags.specs.Format.{word_bytes, word_at}
 use Rattle.tags.specs.declared.format.Format.{Format}
 use Rattle.tags.specs.declared.format.Profile.{Profile}
@@ -101,28 +99,38 @@ pub length-record_bytes : (f : Format) (next buffer cache : ℕ) → length (rec
 unfolding record_bytes
 length-record_bytes f next buffer cache = simp (length-append, length_bytes_of, length-replicate) (omega (arith, record_least f.profile))
 
--- four words and a fill in a row are a record
-pub record_run : (f : Format) (l a b c d e : List ℕ) (at size next buffer cache : ℕ)
-    → a ≡ sets l (at + 0) (word_bytes f next)
-    → b ≡ sets a (at + 4) (word_bytes f buffer)
-    → c ≡ sets b (at + 8) (word_bytes f 0)
-    → d ≡ sets c (at + 12) (word_bytes f cache)
-    → size ≡ record_size f.profile
-    → e ≡ sets d (at + stamp_at) (repeated (size - stamp_at) (low_bytes 4 0))
-    → e ≡ sets l at (record_bytes f next buffer cache)
+-- four words in a row over a record's bytes, and 0 behind them, are a record
+pub record_run : (f : Format) (l a b c d z : List ℕ) (m next buffer cache : ℕ)
+    → length l ≡ record_size f.profile
+    → a ≡ sets l 0 (word_bytes f next)
+    → b ≡ sets a 4 (word_bytes f buffer)
+    → c ≡ sets b 8 (word_bytes f 0)
+    → d ≡ sets c 12 (word_bytes f cache)
+    → m + stamp_at ≡ record_size f.profile
+    → z ≡ replicate (length (take m (drop stamp_at d))) 0
+    → put_mid stamp_at m d z ≡ record_bytes f next buffer cache
 unfolding record_bytes
-record_run f l a b c d e at size next buffer cache ea eb ec ed es ee =
+record_run f l a b c d z m next buffer cache el ea eb ec ed em ez =
     let p₁ = word_bytes f next in
     let p₂ = p₁ ++ word_bytes f buffer in
     let p₃ = p₂ ++ word_bytes f 0 in
     let p₄ = p₃ ++ word_bytes f cache in
-    let q₁ = ea ∙ ap (λ (k : ℕ). sets l k p₁) (add-zero at) in
-    let q₂ = sets-next l p₁ (word_bytes f buffer) at 4 (at + 4) q₁ (length_bytes_of f.order 4 next) refl eb in
-    let q₃ = sets-next l p₂ (word_bytes f 0) at 8 (at + 8) q₂ (simp (length-append, length_bytes_of)) refl ec in
-    let q₄ = sets-next l p₃ (word_bytes f cache) at 12 (at + 12) q₃ (simp (length-append, length_bytes_of)) refl ed in
-    let fill = repeated (size - stamp_at) (low_bytes 4 0) in
-    rw (← es, ← repeated-none (size - stamp_at))
-    (sets-next l p₄ fill at stamp_at (at + stamp_at) q₄ (simp (length-append, length_bytes_of)) refl ee)
+    let n = record_size f.profile in
+    let q₂ = sets-next l p₁ (word_bytes f buffer) 0 4 4 ea (length_bytes_of f.order 4 next) refl eb in
+    let q₃ = sets-next l p₂ (word_bytes f 0) 0 8 8 q₂ (simp (length-append, length_bytes_of)) refl ec in
+    let q₄ = sets-next l p₃ (word_bytes f cache) 0 12 12 q₃ (simp (length-append, length_bytes_of)) refl ed in
+    let long : length d ≡ n = rw (q₄, length-sets) el in
+    let rest : m ≡ record_size f.profile - stamp_at = omega arith in
+    let count : length (take m (drop stamp_at d)) ≡ m = simp (length-take, length-drop) (omega arith) in
+    let zeros : length (replicate {A = ℕ} m 0) ≡ m = length-replicate m 0 in
+    let q : put_mid stamp_at m d z ≡ sets d stamp_at (replicate (record_size f.profile - stamp_at) 0) =
+    rw (ez, count, ← rest) (written stamp_at m d (replicate m 0) (sym zeros) (omega arith)) in
+    let e : put_mid stamp_at m d z ≡ sets l 0 (record_bytes f next buffer cache) =
+    sets-next l p₄ (replicate (record_size f.profile - stamp_at) 0) 0 stamp_at stamp_at q₄ (simp (length-append, length_bytes_of)) refl q in
+    rw e (sets-whole l (record_bytes f next buffer cache) (length-record_bytes f next buffer cache ∙ sym el))
+
+-- a record is lent as a part of the area, and comes back in its place
+pub ruleset lent_record = (part-lent, part_back, length-record_bytes)
 
 -- its next word, and its buffer's address
 module _ (f : Format) (next buffer cache : ℕ) where

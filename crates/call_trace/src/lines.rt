@@ -1,36 +1,43 @@
-// The words and numbers of a line, put into an output.
+// The lines of the calls' answers, put into an output.
+use std::fmt::Display;
 use std::io;
 use std::io::Write;
-use tags::refusal;
 use tags::refusal::Refusal;
 
-// Writes a word.
-pub(crate) fn put_word<W: Write>(output: &mut W, word: &[u8]) -> io::Result<()> {
-    output.write_all(word)
+// The line of a call that is refused.
+pub(crate) fn put_refusal<W: Write>(output: &mut W, call: &str, why: Refusal) -> io::Result<()> {
+    writeln!(output, "{call} refused {} {}", why.number(), why.detail())
 }
 
-// Writes a number behind a space.
-pub(crate) fn put_number<W: Write>(output: &mut W, n: u64) -> io::Result<()> {
-    write!(output, " {n}")
-}
-
-// Ends a line.
-pub(crate) fn end<W: Write>(output: &mut W) -> io::Result<()> {
-    put_word(output, b"\n")
-}
-
-// Writes a refusal, and ends the line.
-pub(crate) fn put_refusal<W: Write>(output: &mut W, why: Refusal) -> io::Result<()> {
-    put_word(output, b" refused")?;
-    put_number(output, refusal::number(why) as u64)?;
-    put_number(output, refusal::detail(why) as u64)?;
-    end(output)
-}
-
-// Writes the bytes of a part as numbers, and ends the line.
-pub(crate) fn put_bytes<W: Write>(output: &mut W, part: &[u8]) -> io::Result<()> {
-    for b in part {
-        put_number(output, u64::from(*b))?;
+// The line of a call that answers one number or word.
+pub(crate) fn put_answer<W: Write, T: Display + Drop>(
+    output: &mut W,
+    call: &str,
+    answer: Result<T, Refusal>,
+) -> io::Result<()> {
+    match answer {
+        Ok(told) => writeln!(output, "{call} {told}"),
+        Err(why) => put_refusal(output, call, why),
     }
-    end(output)
+}
+
+// The line of a part: its bytes as numbers.
+pub(crate) fn put_part<W: Write>(output: &mut W, call: &str, part: &[u8]) -> io::Result<()> {
+    write!(output, "{call}")?;
+    for b in part {
+        write!(output, " {b}")?;
+    }
+    writeln!(output)
+}
+
+// The line of what stands at an address.
+pub(crate) fn put_found<W: Write>(
+    output: &mut W,
+    call: &str,
+    found: Option<u32>,
+) -> io::Result<()> {
+    match found {
+        Some(n) => writeln!(output, "{call} {n}"),
+        None => writeln!(output, "{call} none"),
+    }
 }

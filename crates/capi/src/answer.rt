@@ -2,8 +2,7 @@
 ghost use Rattle.std.specs.Prelude.{◌≡◌, ◌<◌};
 ghost use Rattle.capi.specs.Answer.{accepted_word, shown_word, refused_word, answer_word};
 
-use tags::refusal;
-use tags::refusal::{Answer, Refusal};
+use tags::refusal::Refusal;
 
 // What an accepted call returns.
 pub(crate) fn accepted(value: u32) -> u64
@@ -21,20 +20,21 @@ pub(crate) fn shown(start: u32, len: u32) -> u64
 }
 
 // What a refused call returns.
+#[tactic(auto, unfolding(crate::specs::Answer::refused_word))]
 pub(crate) fn refused(why: Refusal) -> u64
     ensures { result ≡ refused_word why }
 {
-    let number = refusal::number(why);
-    let detail = refusal::detail(why);
+    let number = why.number();
+    let detail = why.detail();
     (number as u64) + (detail as u64) * 256
 }
 
 // What a call returns.
-pub(crate) fn word(a: Answer) -> u64
+pub(crate) fn word(a: Result<u32, Refusal>) -> u64
     ensures { result ≡ answer_word a }
 {
     match a {
-        Answer::Refused(why) => refused(why),
-        Answer::Value(value) => accepted(value),
+        Ok(value) => accepted(value),
+        Err(why) => refused(why),
     }
 }

@@ -15,19 +15,19 @@ use crate::answer;
 use allocation::allocate;
 use area::record::Stamp;
 use chunks::chunk::Grant;
-use client::show::Shown;
 use client::{show, store};
-use tags::format;
-use tags::format::Format;
+use sheet::lent::{HeapMut, Image, ImageMut};
+use tags::format::{Format, Profile};
 
 // What is asked for: where it is the whole buffer, the size is not read.
 fn grant(whole: bool, size: u32) -> Grant
     ensures { result ≡ grant_of whole size }
 {
     if whole {
-        return Grant::Whole;
+        Grant::Whole
+    } else {
+        Grant::Sized(size)
     }
-    Grant::Sized(size)
 }
 
 // Lays out an image in which every buffer is free, by the rules of a profile, its words low byte first or high byte first.
@@ -49,17 +49,12 @@ pub fn cg_lay_out(
         cache heap_base record_base size count) }
 {
     let f = Format::of(userland, low_first);
-    answer::word(layout::lay_out(
-        f,
-        cache,
-        heap_base,
-        record_base,
-        size,
-        count,
+    let mut image = ImageMut {
         sheet,
         heap,
         records,
-    ))
+    };
+    answer::word(layout::lay_out(f, cache, heap_base, record_base, size, count, &mut image))
 }
 
 // Grants a buffer. The value is its address.
@@ -78,10 +73,18 @@ pub fn cg_allocate(
         (allocate_of (profile_if userland) (areas sheet.old heap.old records.old)
         (grant_of whole size) (stamp_of uptime thread)) }
 {
-    let profile = format::profile_if(userland);
-    let asked = grant(whole, size);
     let granted = Stamp { uptime, thread };
-    answer::word(allocate::allocate(profile, sheet, heap, records, asked, granted))
+    let mut image = ImageMut {
+        sheet,
+        heap,
+        records,
+    };
+    answer::word(allocate::allocate(
+        Profile::from(userland),
+        &mut image,
+        grant(whole, size),
+        granted,
+    ))
 }
 
 // Frees the buffer at an address.
@@ -101,10 +104,19 @@ pub fn cg_free(
         (free_of (profile_if userland) (areas sheet.old heap.old records.old)
         address (grant_of whole size) (stamp_of uptime thread)) }
 {
-    let profile = format::profile_if(userland);
-    let given = grant(whole, size);
     let freed = Stamp { uptime, thread };
-    answer::word(free::free(profile, sheet, heap, records, address, given, freed))
+    let mut image = ImageMut {
+        sheet,
+        heap,
+        records,
+    };
+    answer::word(free::free(
+        Profile::from(userland),
+        &mut image,
+        address,
+        grant(whole, size),
+        freed,
+    ))
 }
 
 // Stores bytes at an offset in the client's bytes of the buffer at an address.
@@ -121,8 +133,12 @@ pub fn cg_store(
         ≡ answered answer_word
         (store_of (profile_if userland) (areas sheet.now heap.old records.now) address offset bytes.now) }
 {
-    let profile = format::profile_if(userland);
-    answer::word(store::store(profile, sheet, heap, records, address, offset, bytes))
+    let mut image = HeapMut {
+        sheet,
+        heap,
+        records,
+    };
+    answer::word(store::store(Profile::from(userland), &mut image, address, offset, bytes))
 }
 
 // Counts the client's bytes of the buffer at an address. The value is their number; bits 16 to 31 say where in the buffer they
@@ -133,10 +149,13 @@ pub fn cg_show(userland: bool, sheet: &[u8], heap: &[u8], records: &[u8], addres
     ensures starts { StartsAt (sheet_of (profile_if userland) sheet.now).heap_base address
         (shown_of (profile_if userland) (areas sheet.now heap.now records.now) address) }
 {
-    let profile = format::profile_if(userland);
-    let c = show::find_client(profile, sheet, heap, records, address);
-    match c {
-        Shown::Refused(why) => answer::refused(why),
-        Shown::Client(_, start, len) => answer::shown(start as u32, len as u32),
+    let image = Image {
+        sheet,
+        heap,
+        records,
+    };
+    match show::find_client(Profile::from(userland), &image, address) {
+        Ok(s) => answer::shown(s.start as u32, s.len as u32),
+        Err(why) => answer::refused(why),
     }
 }

@@ -12,32 +12,30 @@ ghost use Rattle.capi.specs.Reader.{area_lengths_of, survey_word};
 
 use crate::answer::{accepted, refused, word};
 use report::answer;
+use sheet::lent::Image;
 use sheet::opening;
-use sheet::opening::Lengths;
 use survey::{numbers, table};
-use tags::format;
+use tags::format::Profile;
 use tags::refusal::Refusal;
 use transactions::latest;
 use transactions::latest::Transaction;
 
 // Writes the heap's length and the record area's, as the sheet has them. The value is 0.
+#[tactic(auto, unfolding(crate::specs::Reader::area_lengths_of))]
 pub fn cg_area_lengths(userland: bool, sheet: &[u8], lengths: &mut [u32]) -> u64
     ensures { filling result lengths.new
         ≡ told answer_word (area_lengths_of (profile_if userland) sheet.now lengths.old) }
 {
-    let profile = format::profile_if(userland);
-    let asked = opening::area_lengths(profile, sheet);
-    match asked {
-        Lengths::Refused(why) => refused(why),
-        Lengths::Areas(heap, records) => {
-            if lengths.len() < 2 {
-                return refused(Refusal::ShortOutput);
-            }
-            lengths[0] = heap as u32;
-            lengths[1] = records as u32;
-            accepted(0)
-        }
+    let areas = match opening::area_lengths(Profile::from(userland), sheet) {
+        Ok(areas) => areas,
+        Err(why) => return refused(why),
+    };
+    if lengths.len() < 2 {
+        return refused(Refusal::ShortOutput);
     }
+    lengths[0] = areas.heap as u32;
+    lengths[1] = areas.records as u32;
+    accepted(0)
 }
 
 // Fills three numbers for each buffer: index, verdict number, size or offset. The value is the number of buffers.
@@ -54,8 +52,12 @@ pub fn cg_inspect(
         (tabulate_of (profile_if userland) (areas sheet.now heap.now records.now) magazines.now
         rows.old) }
 {
-    let profile = format::profile_if(userland);
-    word(table::tabulate(profile, sheet, heap, records, magazines, rows))
+    let image = Image {
+        sheet,
+        heap,
+        records,
+    };
+    word(table::tabulate(Profile::from(userland), &image, magazines, rows))
 }
 
 // Fills the same numbers of an image with a log, and three of the chain: records met, ending, the record that it came back to.
@@ -75,8 +77,12 @@ pub fn cg_survey(
         (survey_numbers_of (profile_if userland) (areas sheet.now heap.now records.now) magazines.now
         (length log.now) rows.old chain.old) }
 {
-    let profile = format::profile_if(userland);
-    word(numbers::survey_numbers(profile, sheet, heap, records, magazines, log, rows, chain))
+    let image = Image {
+        sheet,
+        heap,
+        records,
+    };
+    word(numbers::survey_numbers(Profile::from(userland), &image, magazines, log, rows, chain))
 }
 
 // Finds the latest transaction of a buffer. The value is the log row's number, or 0x80000000 plus the record's index.
@@ -92,12 +98,15 @@ pub fn cg_latest(
     ensures { result ≡ latest_word
         (latest_of (profile_if userland) (areas sheet.now heap.now records.now) log.now index time) }
 {
-    let profile = format::profile_if(userland);
-    let t = latest::find_latest(profile, sheet, heap, records, log, index, time);
-    match t {
-        Transaction::Refused(why) => refused(why),
-        Transaction::Row(k) => accepted(k as u32),
-        Transaction::Record(j) => accepted(0x80000000 + j as u32),
+    let image = Image {
+        sheet,
+        heap,
+        records,
+    };
+    match latest::find_latest(Profile::from(userland), &image, log, index, time) {
+        Ok(Transaction::Row(k)) => accepted(k as u32),
+        Ok(Transaction::Record(j)) => accepted(0x80000000 + j as u32),
+        Err(why) => refused(why),
     }
 }
 
@@ -116,6 +125,10 @@ pub fn cg_report(
         (report_of (profile_if userland) (areas sheet.now heap.now records.now) magazines.now
         (length log.now) output.old) }
 {
-    let profile = format::profile_if(userland);
-    word(answer::report(profile, sheet, heap, records, magazines, log, output))
+    let image = Image {
+        sheet,
+        heap,
+        records,
+    };
+    word(answer::report(Profile::from(userland), &image, magazines, log, output))
 }

@@ -1,9 +1,10 @@
--- The laws of the chain: the rule with no bound on the steps, what a chain meets, that a linked list is the chain, and what a walk gives. Assumes nothing.
+-- The laws of the chain: the rule with no bound on the steps, what a chain meets, and that a linked list is the chain. Assumes nothing.
+use Rattle.std.specs.Prelude.{Option, Some, None}
 use mathlib.Core.Path.{◌≡◌, refl, sym, ap, ◌∙◌}
 use mathlib.Core.Logic.{◌≢◌, ◌⊎◌, inl, inr, ⊎_elim}
-use mathlib.Core.List.{List, [], ◌∷◌, append-nil}
-use Prim.Native.Nat.{ℕ, zero, suc, ◌+◌, ◌-◌, ◌*◌, ◌/◌, ◌%◌, ◌≤◌, ◌<◌, ◌^◌}
-use native.Mathlib.Nat.{zero-add, not-suc-le-zero}
+use mathlib.Core.List.{List, [], ◌∷◌}
+use Prim.Native.Nat.{ℕ, zero, suc, ◌+◌, ◌-◌, ◌≤◌, ◌<◌}
+use native.Mathlib.Nat.{not-suc-le-zero}
 use native.Mathlib.Decide.{ℕ_discrete}
 use native.Mathlib.Omega.{arith}
 use borrow.Author.Tests.{eq-eqb, ne_eqb}
@@ -12,57 +13,55 @@ use Rattle.area.specs.Place.{place_address, place_of}
 use Rattle.area.specs.Record.{record_size, next_word}
 use Rattle.area.proofs.Records.{record_least}
 use Rattle.chain.specs.Chain.{occ, Chain, stop, meets, ChainRule, chain_from, chain_after, chain_in}
-use Rattle.chain.specs.Walk.{to_one, area_of, of_place, ending_at, word_values, Gives}
+use Rattle.chain.specs.Walk.{to_one}
 use Rattle.geometry.specs.Limits.{SizesOf}
 use Rattle.geometry.specs.declared.sheet.Sheet.{Sheet}
-use Rattle.area.specs.declared.place.Place.{Place}
-use Rattle.area.specs.declared.place.Place.TheVariants.{At, Nowhere}
 use Rattle.tags.specs.Ending.{ending_value}
 use Rattle.tags.specs.declared.format.Format.{Format}
 use Rattle.tags.specs.declared.ending.Ending.{Ending}
 use Rattle.tags.specs.declared.ending.Ending.TheVariants.{End, Broken, Again}
 use Rattle.area.proofs.Places.{place_at, place_found}
-use Rattle.chain.proofs.MetRecords.{occ-none, occ_cons, occ_here, occ-apart, one_most, area_mid, left, left-most, left_fewer}
+use Rattle.chain.proofs.MetRecords.{occ-none, occ_cons, occ_here, occ-apart, one_most, left, left-most, left_fewer}
 
 -- ---- the rule
 
 -- What the rule asks, at each of its steps, of something that is to hold of every chain: of the records met already, the word it starts from and the chain.
-pub record Steps (next : ℕ → ℕ) (at : ℕ → Place) (P : List ℕ → ℕ → Chain → Type 0) : Type 0 where
+pub record Steps (next : ℕ → ℕ) (at : ℕ → Option ℕ) (P : List ℕ → ℕ → Chain → Type 0) : Type 0 where
   pub ends : (seen : List ℕ) (w : ℕ) → w ≡ 0 → P seen w (stop End)
-  pub breaks : (seen : List ℕ) (w : ℕ) → w ≢ 0 → at w ≡ Nowhere → P seen w (stop Broken)
-  pub repeats : (seen : List ℕ) (w i : ℕ) → w ≢ 0 → at w ≡ At i → occ i seen ≢ 0 → P seen w (stop (Again i))
-  pub goes_on : (seen : List ℕ) (w i : ℕ) (c : Chain) → w ≢ 0 → at w ≡ At i → occ i seen ≡ 0 → P (i ∷ seen) (next i) c → P seen w (meets i c)
+  pub breaks : (seen : List ℕ) (w : ℕ) → w ≢ 0 → at w ≡ None → P seen w (stop Broken)
+  pub repeats : (seen : List ℕ) (w i : ℕ) → w ≢ 0 → at w ≡ Some i → occ i seen ≢ 0 → P seen w (stop (Again i))
+  pub goes_on : (seen : List ℕ) (w i : ℕ) (c : Chain) → w ≢ 0 → at w ≡ Some i → occ i seen ≡ 0 → P (i ∷ seen) (next i) c → P seen w (meets i c)
 
-place? : (p : Place) → ((i : ℕ) × (p ≡ At i)) ⊎ (p ≡ Nowhere)
-place? (At i) = inl (i, refl)
-place? Nowhere = inr refl
+place? : (p : Option ℕ) → ((i : ℕ) × (p ≡ Some i)) ⊎ (p ≡ None)
+place? (Some i) = inl (i, refl)
+place? None = inr refl
 
-module _ (next : ℕ → ℕ) (at : ℕ → Place) where
+module _ (next : ℕ → ℕ) (at : ℕ → Option ℕ) where
   module _ (k : ℕ) (seen : List ℕ) (w : ℕ) where
     from_end : w ≡ 0 → chain_from next at (suc k) seen w ≡ stop End
     unfolding chain_from
     from_end e = simp (eq-eqb w 0 e)
 
-    from_broken : w ≢ 0 → at w ≡ Nowhere → chain_from next at (suc k) seen w ≡ stop Broken
+    from_broken : w ≢ 0 → at w ≡ None → chain_from next at (suc k) seen w ≡ stop Broken
     unfolding chain_from
     from_broken z e = simp (ne_eqb w 0 z, e)
 
-    from_again : (i : ℕ) → w ≢ 0 → at w ≡ At i → occ i seen ≢ 0 → chain_from next at (suc k) seen w ≡ stop (Again i)
+    from_again : (i : ℕ) → w ≢ 0 → at w ≡ Some i → occ i seen ≢ 0 → chain_from next at (suc k) seen w ≡ stop (Again i)
     unfolding chain_from
     from_again i z e m = simp (ne_eqb w 0 z, e, ne_eqb (occ i seen) 0 m)
 
-    from-meets : (i : ℕ) → w ≢ 0 → at w ≡ At i → occ i seen ≡ 0 → chain_from next at (suc k) seen w ≡ meets i (chain_from next at k (i ∷ seen) (next i))
+    from-meets : (i : ℕ) → w ≢ 0 → at w ≡ Some i → occ i seen ≡ 0 → chain_from next at (suc k) seen w ≡ meets i (chain_from next at k (i ∷ seen) (next i))
     unfolding chain_from
     from-meets i z e m = simp (ne_eqb w 0 z, e, eq-eqb (occ i seen) 0 m)
 
-  module _ (n : ℕ) (within : (w i : ℕ) → at w ≡ At i → i < n) where
+  module _ (n : ℕ) (within : (w i : ℕ) → at w ≡ Some i → i < n) where
     module _ (P : List ℕ → ℕ → Chain → Type 0) (s : Steps next at P) where
       -- one step, where those after it hold
       step : (k : ℕ) (seen : List ℕ) (w : ℕ) → ((i : ℕ) → left n (i ∷ seen) < k → P (i ∷ seen) (next i) (chain_from next at k (i ∷ seen) (next i)))
           → left n seen < suc k → P seen w (chain_from next at (suc k) seen w)
       step k seen w rest h = word (ℕ_discrete w 0)
         where
-          met : (i : ℕ) → w ≢ 0 → at w ≡ At i → Dec (occ i seen ≡ 0) → P seen w (chain_from next at (suc k) seen w)
+          met : (i : ℕ) → w ≢ 0 → at w ≡ Some i → Dec (occ i seen ≡ 0) → P seen w (chain_from next at (suc k) seen w)
           met i z e (yes m) =
               let f = left_fewer n i seen (within w i e) m in
               rw (from-meets k seen w i z e m) (s.goes_on seen w i _ z e m (rest i (omega arith)))
@@ -72,8 +71,8 @@ module _ (next : ℕ → ℕ) (at : ℕ → Place) where
           word (yes z) = rw (from_end k seen w z) (s.ends seen w z)
           word (no z) =
               ⊎_elim
-              (λ (p : (i : ℕ) × (at w ≡ At i)). met p.0 z p.1 (ℕ_discrete (occ p.0 seen) 0))
-              (λ (e : at w ≡ Nowhere). rw (from_broken k seen w z e) (s.breaks seen w z e))
+              (λ (p : (i : ℕ) × (at w ≡ Some i)). met p.0 z p.1 (ℕ_discrete (occ p.0 seen) 0))
+              (λ (e : at w ≡ None). rw (from_broken k seen w z e) (s.breaks seen w z e))
               (place? (at w))
 
       -- what the rule hands on from step to step holds of every chain
@@ -127,7 +126,7 @@ once_more seen i l m j h (no d) =
     omega (arith, occ-apart j i l d)
 
 module _ (f : Format) (records : List ℕ) (base n : ℕ) where
-  within : (w i : ℕ) → place_of base (record_size f.profile) n w ≡ At i → i < n
+  within : (w i : ℕ) → place_of base (record_size f.profile) n w ≡ Some i → i < n
   within w i e = (place_found base (record_size f.profile) n w i e).0
 
   -- The rule, with no bound on the steps.
@@ -136,15 +135,16 @@ module _ (f : Format) (records : List ℕ) (base n : ℕ) where
     unfolding chain_after
     chain_end = from_end (next_word f records) (place_of base (record_size f.profile) n) n seen w
 
-    pub chain_broken : w ≢ 0 → place_of base (record_size f.profile) n w ≡ Nowhere → chain_after f records base n seen w ≡ stop Broken
+    pub chain_broken : w ≢ 0 → place_of base (record_size f.profile) n w ≡ None → chain_after f records base n seen w ≡ stop Broken
     unfolding chain_after
     chain_broken = from_broken (next_word f records) (place_of base (record_size f.profile) n) n seen w
 
-    pub chain_again : (i : ℕ) → w ≢ 0 → place_of base (record_size f.profile) n w ≡ At i → occ i seen ≢ 0 → chain_after f records base n seen w ≡ stop (Again i)
+    pub chain_again : (i : ℕ) → w ≢ 0 → place_of base (record_size f.profile) n w ≡ Some i → occ i seen ≢ 0
+        → chain_after f records base n seen w ≡ stop (Again i)
     unfolding chain_after
     chain_again = from_again (next_word f records) (place_of base (record_size f.profile) n) n seen w
 
-    pub chain-meets : (i : ℕ) → w ≢ 0 → place_of base (record_size f.profile) n w ≡ At i → occ i seen ≡ 0
+    pub chain-meets : (i : ℕ) → w ≢ 0 → place_of base (record_size f.profile) n w ≡ Some i → occ i seen ≡ 0
         → chain_after f records base n seen w ≡ meets i (chain_after f records base n (i ∷ seen) (next_word f records i))
     unfolding chain_after
     chain-meets i z e m =
@@ -276,40 +276,3 @@ linked_same f g base size n w (i ∷ l) h r = (
         (rw (h i (λ z. omega (arith, occ_here i l))) at r.1.1),
   ),
 )
-
--- ---- what a walk gives
-
-module _ (base size n w : ℕ) where
-  pub ending_end : w ≡ 0 → ending_at base size n w ≡ End
-  unfolding ending_at
-  ending_end e = simp (eq-eqb w 0 e)
-
-  pub ending-place : (p : Place) → w ≢ 0 → place_of base size n w ≡ p → ending_at base size n w ≡ of_place p
-  unfolding ending_at
-  ending-place p z e = simp (ne_eqb w 0 z, e)
-
--- a walk that stops at once
-pub gives_stop : (c : Chain) (e : Ending) (rest : ℕ → ℕ) (seen : List ℕ) (base size n before w r : ℕ) (exit : List ℕ)
-    → c ≡ stop e → r ≡ before * word_values + w → w < 2 ^ 32 → ending_at base size n w ≡ e → exit ≡ area_of n rest seen
-    → Gives c rest seen base size n before r exit
-gives_stop c e rest seen base size n before w r exit q ri l t h =
-    let d : r / word_values ≡ before + 0 = omega arith in
-    let m : r % word_values ≡ w = omega arith in
-    rw q (record { met = d; ending = ap (ending_at base size n) m ∙ t; marked = h })
-
--- a walk that meets record i, and goes on
-pub gives_meets : (c d : Chain) (i : ℕ) (rest : ℕ → ℕ) (seen : List ℕ) (base size n before r : ℕ) (exit : List ℕ) → c ≡ meets i d
-    → Gives d rest (i ∷ seen) base size n (before + 1) r exit → Gives c rest seen base size n before r exit
-gives_meets c d i rest seen base size n before r exit q g =
-    rw q (record { met = g.met ∙ omega arith; ending = g.ending; marked = g.marked ∙ area_mid n rest i d.met seen })
-
--- a walk of the whole chain
-pub gives_all : (g : Sheet) (records : List ℕ) (rest : ℕ → ℕ) (size r : ℕ) (exit : List ℕ)
-    → Gives (chain_after g.format records g.record_base g.count [] g.head) rest [] g.record_base size g.count 0 r exit →
-    let c = chain_in g records in
-    (r / word_values ≡ length c.met)
-    × ((ending_at g.record_base size g.count (r % word_values) ≡ c.ending) × (exit ≡ area_of g.count rest c.met))
-gives_all g records rest size r exit w =
-    let c = chain_in g records in
-    let h = rw (sym (chain-whole g records)) at w in
-    (h.met ∙ zero-add (length c.met), (h.ending, h.marked ∙ ap (area_of g.count rest) (append-nil c.met)))

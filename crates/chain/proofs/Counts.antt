@@ -1,28 +1,28 @@
 -- The laws of the digits: what a byte says, and the counts that a pass makes word by word. Assumes nothing.
+use Rattle.std.specs.Prelude.{Some, None}
 use mathlib.Core.Path.{◌≡◌, refl, sym, ap, ◌∙◌}
 use mathlib.Core.Logic.{◌≢◌}
-use mathlib.Core.Bool.{Bool, true, false, not, cond}
+use mathlib.Core.Bool.{true, false, not, cond}
 use mathlib.Core.List.{List, [], ◌∷◌}
 use Prim.Native.Nat.{ℕ, zero, suc, ◌+◌, ◌*◌, ◌/◌, ◌%◌, ◌≤◌, ◌<◌}
-use native.Mathlib.Nat.{le_of_suc-le-suc, not-suc-le-zero}
+use native.Mathlib.Numerals.{add-one}
 use native.Mathlib.Omega.{arith}
 use borrow.Author.Tests.{eq-eqb, ne_eqb, lt-ltb, le-ltb}
 use lib.Dec.{eqb}
 use lib.ListN.{length, get_or, set, replicate, take, drop}
-use lib.Seq.{take-suc, drop-cons, drop-length, take-length}
+use lib.Seq.{take-suc, drop-cons, drop-length}
 use Rattle.area.specs.Record.{address_word}
-use Rattle.area.proofs.Places.{address_one}
+use Rattle.area.proofs.Places.{address_one, place_found, place_missed}
+use Rattle.geometry.specs.Limits.{Lawful}
 use Rattle.geometry.specs.Sheet.{buffer_address, buffer_of}
 use Rattle.geometry.specs.declared.sheet.Sheet.{Sheet}
-use Rattle.area.specs.Place.{by_place}
-use Rattle.area.specs.declared.place.Place.{Place}
-use Rattle.area.specs.declared.place.Place.TheVariants.{At, Nowhere}
+use Rattle.area.specs.Place.{place_address, place_of}
 use Rattle.sheet.specs.Areas.{all_buffers}
 use Rattle.chain.specs.Chain.{occ, chain_in, met_by}
 use Rattle.chain.specs.Walk.{table, to_one, area_of}
 use Rattle.chain.specs.Pairing.{namers}
 use Rattle.chain.specs.Magazines.{listed_in}
-use Rattle.chain.specs.Marks.{to_two, named_by, names_after, with_listed, Lists, counts_in, marks_in, met_digit, names_digit, listed_digit, with_name, with_listing}
+use Rattle.chain.specs.Marks.{to_two, named_by, names_after, with_listed, counts_in, marks_in, met_digit, names_digit, listed_digit, with_name, with_listing}
 use Rattle.chain.proofs.MetRecords.{occ_cons, occ_append, occ-none, one_most, none}
 use Rattle.chain.proofs.MetRecords.{length-table, get_or_table, is-table, table-set, length-area, area_at, area_bit}
 
@@ -73,21 +73,6 @@ met_digit_lem b (suc k) e = simp (ne_eqb (b % 2) 0 (λ z. omega arith), ne_eqb (
 
 -- ---- the marks
 
--- a pass that clears the marks: the first i are
-abbrev pub cleared : ℕ → List ℕ → List ℕ
-cleared zero l = l
-cleared (suc i) [] = []
-cleared (suc i) (x ∷ l) = 0 ∷ cleared i l
-
-pub clear_more : (i : ℕ) (l : List ℕ) → i < length l → set (cleared i l) i 0 ≡ cleared (suc i) l
-clear_more i [] h = absurd (not-suc-le-zero h)
-clear_more zero (x ∷ l) h = refl
-clear_more (suc i) (x ∷ l) h = ap (λ (m : List ℕ). 0 ∷ m) (clear_more i l (le_of_suc-le-suc h))
-
-pub clear_all : (l : List ℕ) → cleared (length l) l ≡ replicate (length l) 0
-clear_all [] = refl
-clear_all (x ∷ l) = ap (λ (m : List ℕ). 0 ∷ m) (clear_all l)
-
 area_clear : (n : ℕ) → replicate n 0 ≡ area_of n none []
 unfolding occ table
 area_clear zero = refl
@@ -108,6 +93,28 @@ module _ (n : ℕ) (f : ℕ → ℕ → ℕ) (c d : ℕ → ℕ) (marks : List �
       is-table marks n (λ i. f i (d i)) (ap length e ∙ length-table n (λ i. f i (c i)))
       (λ i l. ap (λ (a : List ℕ). get_or a i 0) e ∙ get_or_table n (λ j. f j (c j)) i l ∙ ap (f i) (sym (o i l)))
 
+-- a place that is found is one of the n, and the word is its address
+pub record Placed (base stride n w i : ℕ) : Type 0 where
+  pub within : i < n
+  pub at : w ≡ place_address base stride i
+
+pub placed : (base stride n w i : ℕ) → place_of base stride n w ≡ Some i → Placed base stride n w i
+placed base stride n w i e = let f = place_found base stride n w i e in record { within = f.0; at = f.1 }
+
+pub buffer_placed : (g : Sheet) (w i : ℕ) → buffer_of g w ≡ Some i → Placed g.heap_base g.chunk g.count w i
+buffer_placed g w i e = placed g.heap_base g.chunk g.count w i e
+
+module _ (g : Sheet) (law : Lawful g) (w : ℕ) where
+  chunk_some : 0 < g.chunk
+  chunk_some = omega (arith, law.sizes.chunks)
+
+  -- where the word is the address of buffer k, it is no other's; and where it is none's
+  no_other : (k i : ℕ) → buffer_of g w ≡ Some k → i ≢ k → w ≢ buffer_address g i
+  no_other k i e d q = d (address_one g.heap_base g.chunk i k chunk_some (sym q ∙ (buffer_placed g w k e).at))
+
+  no_buffer : (i : ℕ) → buffer_of g w ≡ None → i < g.count → w ≢ buffer_address g i
+  no_buffer i e h q = place_missed g.heap_base g.chunk g.count w chunk_some e i h q
+
 module _ (g : Sheet) (records : List ℕ) where
   -- the marks when the first j records are counted
   abbrev pub Counted : ℕ → List ℕ → Type 0
@@ -120,30 +127,31 @@ module _ (g : Sheet) (records : List ℕ) where
     pub small_at : (i : ℕ) → i < g.count → get_or marks i 0 < 6
     small_at i h = let b = byte_at i h in let s = byte_small (to_one (occ i met)) (named_by g records j i) (one_most (occ i met)) in omega arith
 
-    pub names_at : (i : ℕ) → i < g.count → names_digit (get_or marks i 0) ≡ names_after g records j i
-    names_at i h = ap names_digit (byte_at i h) ∙ byte_names (to_one (occ i met)) (named_by g records j i) (one_most (occ i met))
-
   pub counted_none : (marks : List ℕ) → marks ≡ replicate g.count 0 → Counted 0 marks
   unfolding namers
   counted_none marks e = e ∙ area_clear g.count
 
-  -- record j names buffer k, and no other
-  pub counted_hit : (j k v : ℕ) (marks : List ℕ) → 0 < g.chunk → k < g.count → address_word g.format records j ≡ buffer_address g k
-      → v ≡ with_name (get_or marks k 0) → Counted j marks → Counted (suc j) (set marks k v)
-  unfolding namers
-  counted_hit j k v marks p h w d e =
-      counts_hit g.count (λ i. byte (to_one (occ i []))) (named_by g records j) (named_by g records (suc j)) marks e k v h
-      (simp (eq-eqb (address_word g.format records j) (buffer_address g k) w))
-      (λ i o. simp (ne_eqb (address_word g.format records j) (buffer_address g i) (λ z. o (address_one g.heap_base g.chunk i k p (sym z ∙ w)))))
-      (d ∙ ap with_name (byte_at j [] marks e k h) ∙ byte_name (to_one (occ k [])) (named_by g records j k) (one_most (occ k [])))
+  module _ (law : Lawful g) (j : ℕ) (marks : List ℕ) (e : Counted j marks) where
+    -- record j names buffer k, and no other
+    pub counted_hit : (k v : ℕ) → buffer_of g (address_word g.format records j) ≡ Some k → v ≡ with_name (get_or marks k 0) → Counted (j + 1) (set marks k v)
+    unfolding namers
+    counted_hit k v b d =
+        let w = address_word g.format records j in
+        let f = buffer_placed g w k b in
+        rw add-one
+        (counts_hit g.count (λ i. byte (to_one (occ i []))) (named_by g records j) (named_by g records (suc j)) marks e k v f.within
+        (simp (eq-eqb w (buffer_address g k) f.at))
+        (λ i o. simp (ne_eqb w (buffer_address g i) (no_other g law w k i b o)))
+        (d ∙ ap with_name (byte_at j [] marks e k f.within) ∙ byte_name (to_one (occ k [])) (named_by g records j k) (one_most (occ k []))))
 
-  -- record j names none of them
-  pub counted_miss : (j : ℕ) (marks : List ℕ) → ((i : ℕ) → i < g.count → address_word g.format records j ≡ buffer_address g i → ⊥)
-      → Counted j marks → Counted (suc j) marks
-  unfolding namers
-  counted_miss j marks h e =
-      counts_miss g.count (λ i. byte (to_one (occ i []))) (named_by g records j) (named_by g records (suc j)) marks e
-      (λ i l. simp (ne_eqb (address_word g.format records j) (buffer_address g i) (h i l)))
+    -- record j names none of them
+    pub counted_miss : buffer_of g (address_word g.format records j) ≡ None → Counted (j + 1) marks
+    unfolding namers
+    counted_miss b =
+        let w = address_word g.format records j in
+        rw add-one
+        (counts_miss g.count (λ i. byte (to_one (occ i []))) (named_by g records j) (named_by g records (suc j)) marks e
+        (λ i l. simp (ne_eqb w (buffer_address g i) (no_buffer g law w i b l))))
 
   -- ---- the marks of an image
 
@@ -199,50 +207,30 @@ module _ (g : Sheet) (l : List ℕ) where
   listed_none entry rest small e =
       counts_miss g.count (λ j r. to_one (occ j []) + 2 * r) rest (with_listed g [] rest) entry e (λ i h. simp occ-none (omega arith))
 
-  module _ (k : ℕ) (entry marks : List ℕ) (h : k < length l) (c : Listed k entry marks) where
+  module _ (law : Lawful g) (k : ℕ) (entry marks : List ℕ) (h : k < length l) (c : Listed k entry marks) where
     -- word k is the address of buffer i, and of no other
-    pub listed_hit : (i v : ℕ) → 0 < g.chunk → i < g.count → get_or l k 0 ≡ buffer_address g i → v ≡ with_listing (get_or marks i 0)
-        → Listed (suc k) entry (set marks i v)
-    listed_hit i v p b w d rest small e =
-        counts_hit g.count (λ j. listing (to_one (occ j [])) (rest j)) (listed_in g (take k l)) (listed_in g (take (suc k) l)) marks (c rest small e) i v b
-        (listed_more k i h ∙ simp (eq-eqb (buffer_address g i) (get_or l k 0) (sym w)) (omega arith))
+    pub listed_hit : (i v : ℕ) → buffer_of g (get_or l k 0) ≡ Some i → v ≡ with_listing (get_or marks i 0) → Listed (k + 1) entry (set marks i v)
+    listed_hit i v b d rest small e =
+        let f = buffer_placed g (get_or l k 0) i b in
+        rw add-one
+        (counts_hit g.count (λ j. listing (to_one (occ j [])) (rest j)) (listed_in g (take k l)) (listed_in g (take (suc k) l)) marks (c rest small e) i v
+        f.within
+        (listed_more k i h ∙ simp (eq-eqb (buffer_address g i) (get_or l k 0) (sym f.at)) (omega arith))
         (λ j o. listed_more k j h
-        ∙ simp (ne_eqb (buffer_address g j) (get_or l k 0) (λ z. o (address_one g.heap_base g.chunk j i p (z ∙ w)))) (omega arith))
-        (d ∙ ap with_listing (ap (λ (a : List ℕ). get_or a i 0) (c rest small e) ∙ area_at g.count (with_listed g (take k l) rest) [] i b)
-        ∙ listing_more (to_one (occ i [])) (rest i) (listed_in g (take k l) i) (one_most (occ i [])) (small i))
+        ∙ simp (ne_eqb (buffer_address g j) (get_or l k 0) (λ z. no_other g law (get_or l k 0) i j b o (sym z))) (omega arith))
+        (d ∙ ap with_listing (ap (λ (a : List ℕ). get_or a i 0) (c rest small e) ∙ area_at g.count (with_listed g (take k l) rest) [] i f.within)
+        ∙ listing_more (to_one (occ i [])) (rest i) (listed_in g (take k l) i) (one_most (occ i [])) (small i)))
 
-    -- word k is none's
-    pub listed_miss : ((i : ℕ) → i < g.count → get_or l k 0 ≡ buffer_address g i → ⊥) → Listed (suc k) entry marks
-    listed_miss o rest small e =
-        counts_miss g.count (λ j. listing (to_one (occ j [])) (rest j)) (listed_in g (take k l)) (listed_in g (take (suc k) l)) marks (c rest small e)
-        (λ i b. listed_more k i h ∙ simp (ne_eqb (buffer_address g i) (get_or l k 0) (λ z. o i b (sym z))) (omega arith))
+  -- whether every word is a buffer's address: from word k on, and from the next
+  module _ (k : ℕ) (h : k < length l) where
+    pub all_hit : (i : ℕ) → buffer_of g (get_or l k 0) ≡ Some i → all_buffers g (drop k l) ≡ all_buffers g (drop (k + 1) l)
+    unfolding all_buffers
+    all_hit i e = rw (add-one, drop-cons l k 0 h, e)
 
-  pub listed_all : (k : ℕ) (entry marks : List ℕ) → k ≡ length l → Listed k entry marks → Lists g l entry marks
-  listed_all k entry marks e c rest small q =
-      c rest small q ∙ ap (λ (m : List ℕ). area_of g.count (with_listed g m rest) []) (ap (λ (j : ℕ). take j l) e ∙ take-length l)
+    pub all_miss : buffer_of g (get_or l k 0) ≡ None → all_buffers g (drop k l) ≡ false
+    unfolding all_buffers
+    all_miss e = rw (drop-cons l k 0 h, e)
 
-  -- ---- whether every word is a buffer's address: the words from k on decide, unless one before was none
-
-  abbrev pub AllIf : ℕ → Bool → Type 0
-  AllIf k all = all_buffers g l ≡ cond all (all_buffers g (drop k l)) false
-
-  -- what word k adds
-  all_from : (k : ℕ) (p : Place) → k < length l → buffer_of g (get_or l k 0) ≡ p
-      → all_buffers g (drop k l) ≡ by_place p (λ i. all_buffers g (drop (suc k) l)) false
+  pub all_end : (k : ℕ) → k ≡ length l → all_buffers g (drop k l) ≡ true
   unfolding all_buffers
-  all_from k p h e = ap (all_buffers g) (drop-cons l k 0 h) ∙ ap (λ (q : Place). by_place q (λ i. all_buffers g (drop (suc k) l)) false) e
-
-  module _ (k : ℕ) (all : Bool) (h : k < length l) (a : AllIf k all) where
-    pub all_hit : (i : ℕ) → buffer_of g (get_or l k 0) ≡ At i → AllIf (suc k) all
-    all_hit i e = a ∙ ap (λ (b : Bool). cond all b false) (all_from k (At i) h e)
-
-    pub all_miss : buffer_of g (get_or l k 0) ≡ Nowhere → AllIf (suc k) false
-    all_miss e =
-        a ∙ ap (λ (b : Bool). cond all b false) (all_from k Nowhere h e)
-        ∙ (elim all as (λ (t : Bool). cond t false false ≡ false) [ true ↦ refl | false ↦ refl ])
-
-  pub all_end : (k : ℕ) (all : Bool) → k ≡ length l → AllIf k all → all ≡ all_buffers g l
-  unfolding all_buffers
-  all_end k all e a =
-      sym (a ∙ ap (λ (r : List ℕ). cond all (all_buffers g r) false) (ap (λ (j : ℕ). drop j l) e ∙ drop-length l)
-      ∙ (elim all as (λ (t : Bool). cond t true false ≡ t) [ true ↦ refl | false ↦ refl ]))
+  all_end k e = rw (e, drop-length l)

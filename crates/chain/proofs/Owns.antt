@@ -1,10 +1,12 @@
 -- The laws of the own record: it is the one record that names a buffer, where one alone does. Assumes nothing.
+use Rattle.std.specs.Prelude.{Some, None}
 use mathlib.Core.Path.{◌≡◌, refl, sym, ap, ◌∙◌}
 use mathlib.Core.Logic.{◌≢◌, ⊎_elim}
 use mathlib.Core.Bool.{true, false}
 use mathlib.Core.List.{List, [], ◌∷◌}
 use Prim.Native.Nat.{ℕ, zero, suc, ◌+◌, ◌<◌}
 use native.Mathlib.Nat.{le_step, le_of_suc-le-suc, not-suc-le-zero}
+use native.Mathlib.Numerals.{add-one}
 use native.Mathlib.Omega.{arith}
 use borrow.Author.Tests.{eq-eqb, ne_eqb, eqb-true, eqb-false}
 use lib.Arith.{lt_of_le-ne}
@@ -16,7 +18,6 @@ use Rattle.geometry.specs.Sheet.{buffer_address}
 use Rattle.geometry.specs.declared.sheet.Sheet.{Sheet}
 use Rattle.chain.specs.Pairing.{namers, the_one, own_in}
 use Rattle.chain.specs.Marks.{to_two, names_after}
-use Rattle.chain.specs.declared.pairing.Own.TheVariants.{One, NotOne}
 
 -- ---- the records that name a buffer
 
@@ -26,12 +27,12 @@ single [] e = absurd (omega arith)
 single (k ∷ []) e = (k, refl)
 single (k ∷ (m ∷ l)) e = absurd (omega arith)
 
-not_single : (l : List ℕ) → to_two (length l) ≢ 1 → the_one l ≡ NotOne
+not_single : (l : List ℕ) → to_two (length l) ≢ 1 → the_one l ≡ None
 not_single [] d = refl
 not_single (k ∷ []) d = absurd (d refl)
 not_single (k ∷ (m ∷ l)) d = refl
 
-the_one_lem : (l : List ℕ) (j : ℕ) → the_one l ≡ One j → l ≡ j ∷ []
+the_one_lem : (l : List ℕ) (j : ℕ) → the_one l ≡ Some j → l ≡ j ∷ []
 the_one_lem [] j e = let z : ◌≡◌ {A = ℕ} 0 1 = cc in absurd (omega arith)
 the_one_lem (k ∷ []) j e = let s : k ≡ j = cc in ap (λ (x : ℕ). x ∷ []) s
 the_one_lem (k ∷ (m ∷ l)) j e = let z : ◌≡◌ {A = ℕ} 0 1 = cc in absurd (omega arith)
@@ -88,37 +89,39 @@ module _ (word : ℕ → ℕ) (a : ℕ) where
   unfolding namers
   found_none = record { names_are = refl; last_is = refl }
 
-  pub found_hit : (j names last : ℕ) → word j ≡ a → Found word a j names last → Found word a (suc j) (names + 1) j
+  pub found_hit : (j names last : ℕ) → word j ≡ a → Found word a j names last → Found word a (j + 1) (names + 1) j
   unfolding namers
-  found_hit j names last e f = record { names_are = simp (eq-eqb (word j) a e) (omega (arith, f.names_are)); last_is = simp (eq-eqb (word j) a e) }
+  found_hit j names last e f =
+      rw (add-one j) (record { names_are = simp (eq-eqb (word j) a e) (omega (arith, f.names_are)); last_is = simp (eq-eqb (word j) a e) })
 
-  pub found_miss : (j names last : ℕ) → word j ≢ a → Found word a j names last → Found word a (suc j) names last
+  pub found_miss : (j names last : ℕ) → word j ≢ a → Found word a j names last → Found word a (j + 1) names last
   unfolding namers
-  found_miss j names last e f = record { names_are = simp (ne_eqb (word j) a e) f.names_are; last_is = simp (ne_eqb (word j) a e) f.last_is }
+  found_miss j names last e f =
+      rw add-one (record { names_are = simp (ne_eqb (word j) a e) f.names_are; last_is = simp (ne_eqb (word j) a e) f.last_is })
 
-one_of : (l : List ℕ) (names last : ℕ) → names ≡ length l → last ≡ first_of l → names ≡ 1 → the_one l ≡ One last
+one_of : (l : List ℕ) (names last : ℕ) → names ≡ length l → last ≡ first_of l → names ≡ 1 → the_one l ≡ Some last
 one_of [] names last n e o = absurd (omega arith)
-one_of (k ∷ []) names last n e o = ap One (sym e)
+one_of (k ∷ []) names last n e o = ap Some (sym e)
 one_of (k ∷ (m ∷ l)) names last n e o = absurd (omega arith)
 
-none_of : (l : List ℕ) (names : ℕ) → names ≡ length l → names ≢ 1 → the_one l ≡ NotOne
+none_of : (l : List ℕ) (names : ℕ) → names ≡ length l → names ≢ 1 → the_one l ≡ None
 none_of [] names n d = refl
 none_of (k ∷ []) names n d = absurd (d n)
 none_of (k ∷ (m ∷ l)) names n d = refl
 
 module _ (g : Sheet) (records : List ℕ) (i : ℕ) where
-  pub found_one : (names last : ℕ) → Found (address_word g.format records) (buffer_address g i) g.count names last → names ≡ 1
-      → own_in g records i ≡ One last
-  unfolding own_in
-  found_one names last f e = one_of (namers (address_word g.format records) g.count (buffer_address g i)) names last f.names_are f.last_is e
+  -- the pass over all records
+  module _ (j names last : ℕ) (e : j ≡ g.count) (f : Found (address_word g.format records) (buffer_address g i) j names last) where
+    pub found_one : names ≡ 1 → own_in g records i ≡ Some last
+    unfolding own_in
+    found_one o = rw (← e) (one_of (namers (address_word g.format records) j (buffer_address g i)) names last f.names_are f.last_is o)
 
-  pub found_other : (names last : ℕ) → Found (address_word g.format records) (buffer_address g i) g.count names last → names ≢ 1
-      → own_in g records i ≡ NotOne
-  unfolding own_in
-  found_other names last f d = none_of (namers (address_word g.format records) g.count (buffer_address g i)) names f.names_are d
+    pub found_other : names ≢ 1 → own_in g records i ≡ None
+    unfolding own_in
+    found_other d = rw (← e) (none_of (namers (address_word g.format records) j (buffer_address g i)) names f.names_are d)
 
   -- an own record is one of the n
-  pub own_below : (j : ℕ) → own_in g records i ≡ One j → j < g.count
+  pub own_below : (j : ℕ) → own_in g records i ≡ Some j → j < g.count
   unfolding own_in
   own_below j e =
       (first_names (address_word g.format records) g.count (buffer_address g i) j []
@@ -126,20 +129,20 @@ module _ (g : Sheet) (records : List ℕ) (i : ℕ) where
 
   -- ---- the own record by its count
 
-  pub own-none : names_after g records g.count i ≢ 1 → own_in g records i ≡ NotOne
+  pub own-none : names_after g records g.count i ≢ 1 → own_in g records i ≡ None
   unfolding own_in
   own-none d = not_single (namers (address_word g.format records) g.count (buffer_address g i)) d
 
   pub own-some : names_after g records g.count i ≡ 1
-      → (j : ℕ) × ((own_in g records i ≡ One j) × ((j < g.count) × (address_word g.format records j ≡ buffer_address g i)))
+      → (j : ℕ) × ((own_in g records i ≡ Some j) × ((j < g.count) × (address_word g.format records j ≡ buffer_address g i)))
   unfolding own_in
   own-some c =
       let s = single (namers (address_word g.format records) g.count (buffer_address g i)) c in
       (s.0, (ap the_one s.1, first_names (address_word g.format records) g.count (buffer_address g i) s.0 [] s.1))
 
   pub own_one : (j : ℕ) → names_after g records g.count i ≡ 1 → j < g.count → address_word g.format records j ≡ buffer_address g i
-      → own_in g records i ≡ One j
+      → own_in g records i ≡ Some j
   unfolding own_in
   own_one j c l w =
       let s = single (namers (address_word g.format records) g.count (buffer_address g i)) c in
-      ap the_one s.1 ∙ ap One (sym (only_names (address_word g.format records) g.count (buffer_address g i) s.0 s.1 j l w))
+      ap the_one s.1 ∙ ap Some (sym (only_names (address_word g.format records) g.count (buffer_address g i) s.0 s.1 j l w))

@@ -1,9 +1,7 @@
 -- The chain. Assumes nothing.
-use Rattle.std.specs.Prelude.{Bool, not, cond, ◌≡◌, ◌≢◌, List, [], ◌∷◌, ℕ, zero, suc, ◌+◌, eqb}
+use Rattle.std.specs.Prelude.{Bool, not, cond, ◌≡◌, ◌≢◌, List, [], ◌∷◌, ℕ, zero, suc, ◌+◌, eqb, Option, Some, None}
 use Rattle.area.specs.Place.{place_of, by_place}
 use Rattle.area.specs.Record.{record_size, next_word}
-use Rattle.area.specs.declared.place.Place.{Place}
-use Rattle.area.specs.declared.place.Place.TheVariants.{At, Nowhere}
 use Rattle.sheet.specs.Areas.{Image}
 use Rattle.geometry.specs.declared.sheet.Sheet.{Sheet}
 use Rattle.tags.specs.declared.format.Format.{Format}
@@ -29,18 +27,18 @@ meets i c = record { met = i ∷ c.met; ending = c.ending }
 
 -- The rule itself, of any `chain` that is told which records are met already and from which word to go on; `next j` is the next word of record j, and
 -- `at w` the record whose address w is.
-pub record ChainRule (next : ℕ → ℕ) (at : ℕ → Place) (chain : List ℕ → ℕ → Chain) : Type 0 where
+pub record ChainRule (next : ℕ → ℕ) (at : ℕ → Option ℕ) (chain : List ℕ → ℕ → Chain) : Type 0 where
   -- H2 (the end)
   pub ends : (seen : List ℕ) → chain seen 0 ≡ stop End
   -- H3 (broken)
-  pub breaks : (seen : List ℕ) (w : ℕ) → w ≢ 0 → at w ≡ Nowhere → chain seen w ≡ stop Broken
+  pub breaks : (seen : List ℕ) (w : ℕ) → w ≢ 0 → at w ≡ None → chain seen w ≡ stop Broken
   -- H4 ("again")
-  pub comes_back : (seen : List ℕ) (w i : ℕ) → w ≢ 0 → at w ≡ At i → occ i seen ≢ 0 → chain seen w ≡ stop (Again i)
+  pub comes_back : (seen : List ℕ) (w i : ℕ) → w ≢ 0 → at w ≡ Some i → occ i seen ≢ 0 → chain seen w ≡ stop (Again i)
   -- H5 (a record is met)
-  pub goes_on : (seen : List ℕ) (w i : ℕ) → w ≢ 0 → at w ≡ At i → occ i seen ≡ 0 → chain seen w ≡ meets i (chain (i ∷ seen) (next i))
+  pub goes_on : (seen : List ℕ) (w i : ℕ) → w ≢ 0 → at w ≡ Some i → occ i seen ≡ 0 → chain seen w ≡ meets i (chain (i ∷ seen) (next i))
 
 -- The chain that meets the rule (`chain_rule`). The first number only bounds the steps: with one more than there are records (H6) no chain runs out.
-unfoldable pub chain_from : (ℕ → ℕ) → (ℕ → Place) → ℕ → List ℕ → ℕ → Chain
+unfoldable pub chain_from : (ℕ → ℕ) → (ℕ → Option ℕ) → ℕ → List ℕ → ℕ → Chain
 chain_from next at zero seen w = stop Broken
 chain_from next at (suc k) seen w =
     cond (eqb w 0) (stop End)

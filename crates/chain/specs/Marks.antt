@@ -1,12 +1,11 @@
 -- The marks that an image is judged by, one byte for each of n places, and what marking answers. Assumes nothing.
-use Rattle.std.specs.Prelude.{◌≡◌, Bool, not, cond, List, [], ℕ, zero, suc, ◌+◌, ◌*◌, ◌/◌, ◌%◌, ◌<◌, eqb, ltb, length}
+use Rattle.tags.specs.declared.refusal.Refusal.{Refusal}
+use Rattle.std.specs.Prelude.{◌≡◌, Bool, not, cond, List, [], ℕ, zero, suc, ◌+◌, ◌*◌, ◌/◌, ◌%◌, ◌<◌, eqb, ltb, length, Result, Ok, Err}
 use Rattle.sheet.specs.Areas.{by_magazines}
 use Rattle.geometry.specs.Sheet.{buffer_address}
 use Rattle.geometry.specs.declared.sheet.Sheet.{Sheet}
 use Rattle.area.specs.Record.{address_word}
 use Rattle.chain.specs.declared.marks.Digits.{Digits}
-use Rattle.chain.specs.declared.marks.Marked.{Marked}
-use Rattle.chain.specs.declared.marks.Marked.TheVariants as marked
 use Rattle.chain.specs.declared.walk.Walked.{Walked}
 use Rattle.chain.specs.Chain.{Chain, chain_in}
 use Rattle.chain.specs.Walk.{area_of}
@@ -51,13 +50,13 @@ abbrev pub walked_of : Chain → Walked
 walked_of c = record { met = length c.met; ending = c.ending }
 
 -- E3 (X3, X4 of the magazine list): the chain of the records, or why the list is refused
-unfoldable pub marked_of : Sheet → List ℕ → List ℕ → Marked
-marked_of g records l = by_magazines g l (marked.Chain (walked_of (chain_in g records))) marked.Refused
+unfoldable pub marked_of : Sheet → List ℕ → List ℕ → Result Walked Refusal
+marked_of g records l = by_magazines g l (Ok (walked_of (chain_in g records))) Err
 
 -- the bytes are the marks, where the list is not refused
-abbrev pub MarksIf : Marked → List ℕ → List ℕ → Type 0
-MarksIf (marked.Chain w) bytes marks = bytes ≡ marks
-MarksIf (marked.Refused why) bytes marks = Unit {0}
+abbrev pub MarksIf : Result Walked Refusal → List ℕ → List ℕ → Type 0
+MarksIf (Ok w) bytes marks = bytes ≡ marks
+MarksIf (Err why) bytes marks = Unit {0}
 
 -- ---- one byte
 

@@ -7,34 +7,21 @@ ghost use Rattle.chain.specs.Pairing.{own_in};
 use geometry::sheet::Sheet;
 use places::records;
 
-// A buffer's own record: the one record that names the buffer. Where none or several do, it has none.
-#[derive(Clone, Copy)]
-pub enum Own {
-    One(usize),
-    NotOne,
-}
-
 // Buffer i's own record, by one pass over the records: how many name the buffer, and which of them is the last.
-pub fn own_record(records: &[u8], g: Sheet, i: usize) -> Own
+pub fn own_record(records: &[u8], g: Sheet, i: usize) -> Option<usize>
     requires lawful { Lawful g }
     requires records_len { length records.now ≡ records_length g }
     requires i_lt_count { i < g.count }
     ensures { result ≡ own_in g records.now i }
 {
     let buffer = g.buffer_address(i);
-    let n = g.count;
     let mut names: usize = 0;
     let mut last = 0;
-    let mut j = 0;
-    while j < n {
+    for j in 0..g.count {
         if records::buffer(records, g, j) == buffer {
             names += 1;
             last = j;
         }
-        j += 1;
     }
-    if names == 1 {
-        return Own::One(last);
-    }
-    Own::NotOne
+    if names == 1 { Some(last) } else { None }
 }

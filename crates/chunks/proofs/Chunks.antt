@@ -1,4 +1,6 @@
 -- The laws of chunks, and what the steps of the code come to. Assumes nothing.
+use Rattle.std.specs.Prelude.{Option, Some, None, Result, Ok, Err}
+use Rattle.tags.specs.declared.size_code.BadCode.{BadCode}
 use mathlib.Core.Path.{◌≡◌, refl, sym, ap, ◌∙◌}
 use mathlib.Core.Logic.{◌≢◌}
 use mathlib.Core.Bool.{Bool, true, false, and-eq-true_iff, cond}
@@ -11,8 +13,6 @@ use lib.ListN.{length, get_or, length-append, length-set}
 use lib.Seq.{sets, length-sets}
 use Rattle.words.specs.Word.{part}
 use Rattle.runs.specs.Run.{repeated, difference}
-use Rattle.runs.specs.declared.run.Difference.{Difference}
-use Rattle.runs.specs.declared.run.Difference.TheVariants.{At, Nowhere}
 use Rattle.words.proofs.Numbers.{length_bytes_of}
 use Rattle.words.proofs.Parts.{sets-next, sets-whole}
 use Rattle.runs.proofs.Runs.{length-repeated}
@@ -28,8 +28,6 @@ use Rattle.chunks.specs.Judge.{by_difference, r1_of, by_decoded, zone_after}
 use Rattle.chunks.specs.Judge.{zone_verdict, header_verdict, sized_verdict, coded_verdict, headed_verdict, allocated_verdict}
 use Rattle.tags.specs.declared.format.Format.{Format}
 use Rattle.tags.specs.declared.format.Profile.{Profile}
-use Rattle.tags.specs.declared.size_code.Decoded.{Decoded}
-use Rattle.tags.specs.declared.size_code.Decoded.TheVariants.{Size, Bad}
 use Rattle.chunks.specs.declared.chunk.Grant.{Grant}
 use Rattle.tags.specs.declared.verdict.Told.{Told}
 use Rattle.tags.specs.declared.verdict.Verdict.{Verdict}
@@ -87,12 +85,12 @@ grant-within p size (grant.Sized q) l = omega (arith, (lawful-within p size q (g
 -- ---- a chunk is judged
 
 -- R0 is compared with what it should be
-pub zone_at : (c zone : List ℕ) (o : ℕ) (v : Verdict) (d : Difference) → d ≡ difference (part c (buffer_size c) 4) zone → d ≡ At o
+pub zone_at : (c zone : List ℕ) (o : ℕ) (v : Verdict) (d : Option ℕ) → d ≡ difference (part c (buffer_size c) 4) zone → d ≡ Some o
     → Overrun (buffer_size c + o) ≡ zone_verdict c zone v
 unfolding zone_verdict
 zone_at c zone o v d e g = rw (← e, g)
 
-pub zone_sound : (c zone : List ℕ) (v : Verdict) (d : Difference) → d ≡ difference (part c (buffer_size c) 4) zone → d ≡ Nowhere
+pub zone_sound : (c zone : List ℕ) (v : Verdict) (d : Option ℕ) → d ≡ difference (part c (buffer_size c) 4) zone → d ≡ None
     → v ≡ zone_verdict c zone v
 unfolding zone_verdict
 zone_sound c zone v d e g = rw (← e, g)
@@ -111,9 +109,9 @@ zone_within : (c zone : List ℕ) (v : Verdict) (s : ℕ) → zone_verdict c zon
 unfolding zone_verdict
 zone_within c zone v s e = go (difference (part c (buffer_size c) 4) zone) e
   where
-    go : (d : Difference) → by_difference d (λ o. Overrun (buffer_size c + o)) v ≡ Allocated s → v ≡ Allocated s
-    go (At o) f = absurd (let z : ◌≡◌ {A = ℕ} 0 1 = cc in omega arith)
-    go Nowhere f = f
+    go : (d : Option ℕ) → by_difference d (λ o. Overrun (buffer_size c + o)) v ≡ Allocated s → v ≡ Allocated s
+    go (Some o) f = absurd (let z : ◌≡◌ {A = ℕ} 0 1 = cc in omega arith)
+    go None f = f
 
 -- the header's verdict of so many bytes allocated is one on a coded size that has them behind its header
 header_within : (f : Format) (c : List ℕ) (k q : ℕ) → header_verdict f c k ≡ Allocated q → 1 ≤ k → (1 ≤ q) × (coded_size f.profile q ≡ k)
@@ -134,13 +132,13 @@ coded_within f c s e = go (eqb (r1_of f c) redzone) (decoded_of (r1_of f c) (buf
     sized k true g = let z = zone_within c (zone_after f k (buffer_size c)) (Allocated k) s g in cc
     sized k false g = absurd (let z : ◌≡◌ {A = ℕ} 0 1 = cc in omega arith)
 
-    go : (b : Bool) (d : Decoded) → decoded_of (r1_of f c) (buffer_size c) ≡ d
+    go : (b : Bool) (d : Result ℕ BadCode) → decoded_of (r1_of f c) (buffer_size c) ≡ d
         → cond b (zone_verdict c (word_bytes f redzone) Whole) (by_decoded d (λ k.
         cond (eqb (get_or c k 0) guard) (zone_verdict c (zone_after f k (buffer_size c)) (Allocated k)) (Overrun k)) BadSizeCode) ≡ Allocated s
         → (1 ≤ s) × (s ≤ buffer_size c)
     go true d q g = absurd (let w = zone_within c (word_bytes f redzone) Whole s g in let z : ◌≡◌ {A = ℕ} 0 1 = cc in omega arith)
-    go false (Size k) q g = let z : k ≡ s = sized k (eqb (get_or c k 0) guard) g in decoded_within (r1_of f c) (buffer_size c) s (q ∙ ap Size z)
-    go false (Bad how) q g = absurd (let z : ◌≡◌ {A = ℕ} 0 1 = cc in omega arith)
+    go false (Ok k) q g = let z : k ≡ s = sized k (eqb (get_or c k 0) guard) g in decoded_within (r1_of f c) (buffer_size c) s (q ∙ ap Ok z)
+    go false (Err how) q g = absurd (let z : ◌≡◌ {A = ℕ} 0 1 = cc in omega arith)
 
 -- the verdict of number 2 is the one of so many bytes allocated
 allocated_two : (v : Verdict) → verdict_number v ≡ 2 → v ≡ Allocated (verdict_value v)

@@ -1,9 +1,7 @@
 -- The verdict on one chunk: the rules that speak of the chunk's own bytes, in their order (J3, J4, J5). Assumes nothing.
-use Rattle.std.specs.Prelude.{cond, List, ℕ, ◌+◌, eqb, get_or, set}
+use Rattle.std.specs.Prelude.{cond, List, ℕ, ◌+◌, eqb, get_or, set, Option, Some, None, Result, Ok, Err}
 use Rattle.words.specs.Word.{part}
 use Rattle.runs.specs.Run.{repeated, difference}
-use Rattle.runs.specs.declared.run.Difference.{Difference}
-use Rattle.runs.specs.declared.run.Difference.TheVariants.{At, Nowhere}
 use Rattle.chunks.specs.Chunk.{redzone, free_fill, guard, buffer_size}
 use Rattle.chunks.specs.Header.{request_of, header_right}
 use Rattle.tags.specs.Format.{word_bytes, word_at}
@@ -11,15 +9,13 @@ use Rattle.tags.specs.SizeCode.{decoded_of}
 use Rattle.tags.specs.Verdict.{verdict_number, verdict_value}
 use Rattle.tags.specs.declared.format.Format.{Format}
 use Rattle.tags.specs.declared.size_code.BadCode.{BadCode}
-use Rattle.tags.specs.declared.size_code.Decoded.{Decoded}
-use Rattle.tags.specs.declared.size_code.Decoded.TheVariants as decoded
 use Rattle.tags.specs.declared.verdict.Verdict.{Verdict}
 use Rattle.tags.specs.declared.verdict.Verdict.TheVariants.{Free, Whole, Allocated, BadFill, BadRedzone, BadSizeCode, Overrun, BadHeader}
 
 -- J7 (the first byte that differs): by where two runs differ, if they do
-abbrev pub by_difference : Difference → (ℕ → Verdict) → Verdict → Verdict
-by_difference (At o) f v = f o
-by_difference Nowhere f v = v
+abbrev pub by_difference : Option ℕ → (ℕ → Verdict) → Verdict → Verdict
+by_difference (Some o) f v = f o
+by_difference None f v = v
 
 -- C1 (R1 of a chunk)
 abbrev pub r1_of : Format → List ℕ → ℕ
@@ -45,9 +41,9 @@ unfoldable pub sized_verdict : Format → List ℕ → ℕ → Verdict
 sized_verdict f c s = cond (eqb (get_or c s 0) guard) (zone_verdict c (zone_after f s (buffer_size c)) (Allocated s)) (Overrun s)
 
 -- by what a code says: its size, or how it is bad
-abbrev pub by_decoded : Decoded → (ℕ → Verdict) → (BadCode → Verdict) → Verdict
-by_decoded (decoded.Size s) f bad = f s
-by_decoded (decoded.Bad how) f bad = bad how
+abbrev pub by_decoded : Result ℕ BadCode → (ℕ → Verdict) → (BadCode → Verdict) → Verdict
+by_decoded (Ok s) f bad = f s
+by_decoded (Err how) f bad = bad how
 
 -- J4 (allocated pattern, R1 is 0xfeedface): V28 (R0), else V1; J5 (any other R1): V27, V31, V32 (how it is no size code), or what J5 has for its s
 unfoldable pub coded_verdict : Format → List ℕ → Verdict

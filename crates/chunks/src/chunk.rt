@@ -7,7 +7,6 @@ use runs::run;
 use tags::format::Format;
 use tags::size_code;
 use tags::tag::{State, Tag};
-use words::word;
 
 pub const REDZONE: u32 = 0xfeedface;
 
@@ -18,7 +17,7 @@ pub const GRANT_FILL: u32 = 0xbaddcafe;
 pub const GUARD: u8 = 0xbb;
 
 // What a buffer is granted as, or asked for: whole, or so many bytes of it.
-#[derive(Clone, Copy)]
+#[derive(Clone, Copy, Debug, PartialEq, Eq)]
 pub enum Grant {
     Whole,
     Sized(u32),
@@ -31,11 +30,11 @@ fn write(f: Format, chunk: &mut [u8], fill: u32, r1: u32, tag: Tag)
 {
     let o = f.order;
     let size = chunk.len() - 16;
-    run::fill(chunk, 0, size, word::turn4(o, fill));
-    word::write_u32(o, chunk, size, REDZONE);
-    word::write_u32(o, chunk, size + 4, r1);
-    word::write_u32(o, chunk, size + 8, tag.t0);
-    word::write_u32(o, chunk, size + 12, tag.t1);
+    run::fill(chunk, 0, size, o.bytes(fill));
+    o.write_u32(chunk, size, REDZONE);
+    o.write_u32(chunk, size + 4, r1);
+    o.write_u32(chunk, size + 8, tag.t0);
+    o.write_u32(chunk, size + 12, tag.t1);
 }
 
 // Writes the chunk of a free buffer whose record is at an address.
@@ -54,8 +53,7 @@ fn write_guarded(f: Format, chunk: &mut [u8], c: u32, tag: Tag)
     ensures { chunk.new ≡ guarded_chunk f (buffer_size chunk.old) c tag }
 {
     write(f, chunk, GRANT_FILL, size_code::encode(c as u16), tag);
-    let i = c as usize;
-    chunk[i] = GUARD;
+    chunk[c as usize] = GUARD;
 }
 
 // Writes the chunk of a granted buffer whose record is at an address.
@@ -67,12 +65,9 @@ pub fn write_granted(f: Format, chunk: &mut [u8], record_at: u32, grant: Grant)
 {
     let tag = Tag::new(record_at, State::Allocated);
     match grant {
-        Grant::Whole => {
-            write(f, chunk, GRANT_FILL, REDZONE, tag);
-        }
+        Grant::Whole => write(f, chunk, GRANT_FILL, REDZONE, tag),
         Grant::Sized(q) => {
-            let p = f.profile;
-            let c = header::coded(p, q);
+            let c = header::coded(f.profile, q);
             write_guarded(f, chunk, c, tag);
             header::write(f, chunk, c);
         }
@@ -87,7 +82,7 @@ pub fn read_tag(f: Format, chunk: &[u8]) -> Tag
     let o = f.order;
     let size = chunk.len() - 16;
     Tag {
-        t0: word::read_u32(o, chunk, size + 8),
-        t1: word::read_u32(o, chunk, size + 12),
+        t0: o.read_u32(chunk, size + 8),
+        t1: o.read_u32(chunk, size + 12),
     }
 }

@@ -5,7 +5,6 @@ ghost use Rattle.std.proofs.lemmas.List.Edits.{sets};
 ghost use Rattle.chunks.specs.Header.{header_size, coded_size, request_most, header_sum, header_bytes, header_right};
 
 use tags::format::{Format, Profile};
-use words::word;
 
 const SUM: u32 = 0x3a10c000;
 
@@ -31,11 +30,7 @@ pub(crate) fn coded(p: Profile, q: u32) -> u32
 pub fn request_most(p: Profile, buffer: usize) -> usize
     ensures { result ≡ request_most p buffer }
 {
-    let h = size(p);
-    if buffer < h {
-        return 0;
-    }
-    buffer - h
+    buffer.saturating_sub(size(p))
 }
 
 // Writes the header of a coded size to the start of a buffer.
@@ -44,25 +39,13 @@ pub(crate) fn write(f: Format, buffer: &mut [u8], c: u32)
     requires c_le_header_sum { c ≤ header_sum }
     ensures { buffer.new ≡ sets buffer.old 0 (header_bytes f c) }
 {
-    let p = f.profile;
-    match p {
+    match f.profile {
         Profile::Kernel => {}
         Profile::Userland => {
-            let o = f.order;
-            word::write_u32(o, buffer, 0, c);
-            word::write_u32(o, buffer, 4, SUM - c);
+            f.order.write_u32(buffer, 0, c);
+            f.order.write_u32(buffer, 4, SUM - c);
         }
     }
-}
-
-// What is missing from a coded size to the sum, 0 for one that is over it.
-fn missing(c: u32) -> u32
-    ensures { result ≡ header_sum - c }
-{
-    if SUM < c {
-        return 0;
-    }
-    SUM - c
 }
 
 // Whether a buffer starts with the header of a coded size, and that is one of a request.
@@ -71,18 +54,12 @@ pub(crate) fn is_right(f: Format, buffer: &[u8], c: u32) -> bool
     requires { 8 ≤ length buffer.now }
     ensures { result ≡ header_right f buffer.now c }
 {
-    let p = f.profile;
-    match p {
+    match f.profile {
         Profile::Kernel => true,
         Profile::Userland => {
-            let o = f.order;
-            if c < 9 {
-                return false;
-            }
-            if word::read_u32(o, buffer, 0) != c {
-                return false;
-            }
-            word::read_u32(o, buffer, 4) == missing(c)
+            9 <= c
+                && f.order.read_u32(buffer, 0) == c
+                && f.order.read_u32(buffer, 4) == SUM.saturating_sub(c)
         }
     }
 }

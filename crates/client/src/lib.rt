@@ -4,9 +4,6 @@
 // and reads one record.
 #![tactic(auto)]
 
-// Where the client's bytes start, and how many they are.
-mod bounds;
-
 // Store into a buffer.
 pub mod store;
 

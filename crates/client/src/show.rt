@@ -1,78 +1,70 @@
 // Show: the client's own bytes, as a part of the heap.
-ghost use Rattle.std.specs.Prelude.{◌≡◌, length};
-ghost use Rattle.sheet.specs.Areas.{areas, image_in};
-ghost use Rattle.sheet.specs.Opening.{Open};
-ghost use Rattle.held.specs.Held.{held_of};
-ghost use Rattle.client.specs.Show.{show_result, shown_of, shown_part, ShownPlace};
+ghost use Rattle.std.specs.Prelude.{◌≡◌, ◌<◌};
+ghost use Rattle.geometry.specs.Limits.{Lawful};
+ghost use Rattle.sheet.specs.Lent.{seen};
+ghost use Rattle.places.specs.Spot.{chunk_start};
+ghost use Rattle.client.specs.Bounds.{client_start, client_size};
+ghost use Rattle.client.specs.Show.{shown, shown_of, shown_part, ShownPlace};
 
-use crate::bounds;
-use geometry::sheet::Sheet;
-use held::Held;
+use chunks::chunk::Grant;
+use chunks::header;
+use held::Holding;
+use sheet::lent::Image;
 use sheet::opening;
-use sheet::opening::Opened;
 use tags::format::Profile;
 use tags::refusal::Refusal;
 
-// Where the buffer stands in the heap, where in it the client's bytes start, and how many they are; or why they are not shown.
-#[derive(Clone, Copy)]
-pub enum Shown {
-    Client(usize, usize, usize),
-    Refused(Refusal),
+// Where the buffer stands in the heap, where in it the client's bytes start, and how many they are.
+#[derive(Clone, Copy, Debug, PartialEq, Eq)]
+pub struct Shown {
+    pub buffer: usize,
+    pub start: usize,
+    pub len: usize,
 }
 
-// Finds the client's bytes of the buffer at an address of an open image.
-fn locate(heap: &[u8], records: &[u8], g: Sheet, address: u32) -> Shown
-    requires { Open (length heap.now) (length records.now) g }
-    ensures { result ≡ show_result (held_of (image_in g heap.now records.now) address) }
-{
-    let held = held::hold(heap, records, g, address);
-    match held {
-        Held::Refused(why) => Shown::Refused(why),
-        Held::Buffer(p) => Shown::Client(
-            bounds::buffer_place(p),
-            bounds::client_start(p),
-            bounds::client_size(p),
-        ),
+impl Shown {
+    // The client's bytes of a buffer that is held: behind the header of a sized grant, and all of the buffer of a whole one.
+    pub(crate) fn of(held: Holding) -> Shown
+        requires lawful { Lawful held.spot.sheet }
+        requires buffer_lt_count { held.spot.buffer < held.spot.sheet.count }
+        ensures { result ≡ shown (chunk_start held.spot) (client_start held) (client_size held) }
+    {
+        let spot = held.spot;
+        let sheet = spot.sheet;
+        let (start, len) = match held.grant {
+            Grant::Whole => (0, sheet.size),
+            Grant::Sized(len) => (header::size(sheet.format.profile), len as usize),
+        };
+        Shown {
+            buffer: sheet.chunk_place(spot.buffer),
+            start,
+            len,
+        }
     }
 }
 
 // Finds the client's bytes of the buffer at an address.
-pub fn find_client(
-    profile: Profile,
-    sheet: &[u8],
-    heap: &[u8],
-    records: &[u8],
-    address: u32,
-) -> Shown
-    ensures { result ≡ shown_of profile (areas sheet.now heap.now records.now) address }
+#[tactic(auto, unfolding(crate::specs::Show::shown_of))]
+pub fn find_client(profile: Profile, image: &Image, address: u32) -> Result<Shown, Refusal>
+    ensures { result ≡ shown_of profile (seen image.now) address }
 {
-    let opened = opening::open(profile, sheet, heap.len(), records.len());
-    match opened {
-        Opened::Refused(why) => Shown::Refused(why),
-        Opened::Sheet(g) => locate(heap, records, g, address),
-    }
+    // No `?` here: it copies the image that was opened, which takes 4 ns and more of each call (measured).
+    let image = match opening::open_image(profile, image) {
+        Ok(image) => image,
+        Err(why) => return Err(why),
+    };
+    let held = held::hold(&image, address)?;
+    Ok(Shown::of(held))
 }
 
 // The client's bytes themselves; empty where they are refused.
-pub fn show<'a>(
-    profile: Profile,
-    sheet: &[u8],
-    heap: &'a [u8],
-    records: &[u8],
-    address: u32,
-) -> &'a [u8]
-    ensures bytes { result.now
-        ≡ shown_part heap.now (shown_of profile (areas sheet.now heap.now records.now) address) }
-    ensures place { ShownPlace heap.entry
-        (shown_of profile (areas sheet.now heap.now records.now) address) result }
+pub fn show<'a>(profile: Profile, image: &Image<'a>, address: u32) -> &'a [u8]
+    ensures bytes { result.now ≡ shown_part image.now.heap.now (shown_of profile (seen image.now) address) }
+    ensures place { ShownPlace image.now.heap (shown_of profile (seen image.now) address) result }
 {
-    let shown = find_client(profile, sheet, heap, records, address);
-    match shown {
-        Shown::Refused(_) => &heap[0..0],
-        Shown::Client(buffer, start, len) => {
-            let at = buffer + start;
-            let end = at + len;
-            &heap[at..end]
-        }
-    }
+    let Ok(client) = find_client(profile, image, address) else {
+        return &[];
+    };
+    let at = client.buffer + client.start;
+    &image.heap[at..at + client.len]
 }

@@ -1,8 +1,7 @@
 -- What the numbers of a sheet say of addresses and places. Assumes nothing.
-use Rattle.std.specs.Prelude.{ℕ, ◌+◌, ◌*◌}
+use Rattle.std.specs.Prelude.{ℕ, ◌+◌, ◌*◌, Option}
 use Rattle.area.specs.Place.{place_address, place_of}
 use Rattle.area.specs.Record.{record_size}
-use Rattle.area.specs.declared.place.Place.{Place}
 use Rattle.tags.specs.declared.format.Format.{Format}
 use Rattle.geometry.specs.declared.sheet.Sheet.{Sheet}
 
@@ -60,8 +59,8 @@ abbrev pub record_address : Sheet → ℕ → ℕ
 record_address g j = place_address g.record_base (record_size g.format.profile) j
 
 -- A7 (the buffer, and the record, whose address a word is)
-abbrev pub buffer_of : Sheet → ℕ → Place
+abbrev pub buffer_of : Sheet → ℕ → Option ℕ
 buffer_of g w = place_of g.heap_base g.chunk g.count w
 
-abbrev pub record_of : Sheet → ℕ → Place
+abbrev pub record_of : Sheet → ℕ → Option ℕ
 record_of g w = place_of g.record_base (record_size g.format.profile) g.count w

@@ -4,7 +4,6 @@ ghost use Rattle.geometry.specs.Sheet.{laid_sheet, heap_length, records_length, 
 ghost use Rattle.geometry.specs.Limits.{SizesOf, Lawful};
 
 use crate::limits;
-use area::place::Place;
 use area::{place, record};
 use tags::format::Format;
 
@@ -12,7 +11,7 @@ use tags::format::Format;
 // chunk, `count` is the number of buffers and of records, `head` the chain's first word. The order is for the machine: a sheet goes from call to
 // call in memory, and fields that stand side by side are copied eight bytes at a time, which waits where they were written one by one.
 // So a number of eight bytes comes first, where a refusal has its own, and others keep apart the pairs that are not needed together.
-#[derive(Clone, Copy)]
+#[derive(Clone, Copy, Debug, PartialEq, Eq)]
 pub struct Sheet {
     pub size: usize,
     pub heap_base: u32,
@@ -63,9 +62,7 @@ impl Sheet {
         requires { SizesOf self }
         ensures { result ≡ records_length self }
     {
-        let f = self.format;
-        let p = f.profile;
-        record::place(p, self.count)
+        record::place(self.format.profile, self.count)
     }
 
     // Where chunk i stands in the heap.
@@ -83,9 +80,7 @@ impl Sheet {
         requires j_lt_count { j < self.count }
         ensures { result ≡ record_place self j }
     {
-        let f = self.format;
-        let p = f.profile;
-        record::place(p, j)
+        record::place(self.format.profile, j)
     }
 
     // The address of buffer i.
@@ -107,7 +102,7 @@ impl Sheet {
     }
 
     // The buffer whose address a word is.
-    pub fn find_buffer(self, word: u32) -> Place
+    pub fn find_buffer(self, word: u32) -> Option<usize>
         ensures { result ≡ buffer_of self word }
     {
         place::find(self.heap_base, self.chunk, self.count, word)
@@ -115,27 +110,26 @@ impl Sheet {
 
     // The same for the word of record j. Buffers mostly stand in the order of their records, up or down, so these two are tried
     // first: then a comparison tells it, and no division.
-    pub fn find_paired(self, word: u32, j: usize) -> Place
+    pub fn find_paired(self, word: u32, j: usize) -> Option<usize>
         requires lawful { Lawful self }
         requires j_lt_count { j < self.count }
         ensures { result ≡ buffer_of self word }
     {
         if self.buffer_address(j) == word {
-            return Place::At(j);
+            return Some(j);
         }
         let other = self.count - 1 - j;
         if self.buffer_address(other) == word {
-            return Place::At(other);
+            return Some(other);
         }
         self.find_buffer(word)
     }
 
     // The record whose address a word is.
-    pub fn find_record(self, word: u32) -> Place
+    pub fn find_record(self, word: u32) -> Option<usize>
         ensures { result ≡ record_of self word }
     {
-        let f = self.format;
-        let p = f.profile;
-        record::find(self.record_base, record::size(p), self.count, word)
+        let size = record::size(self.format.profile);
+        record::find(self.record_base, size, self.count, word)
     }
 }

@@ -1,4 +1,6 @@
 -- What is known of a buffer that is held, by the equation of what is held alone. Assumes nothing.
+use Rattle.std.specs.Prelude.{Some, Result, Ok, Err}
+use Rattle.tags.specs.declared.refusal.Refusal.{Refusal}
 use mathlib.Core.Path.{◌≡◌, refl, ◌∙◌, subst}
 use mathlib.Core.Logic.{◌≢◌}
 use mathlib.Core.Bool.{true}
@@ -25,7 +27,6 @@ use Rattle.chunks.specs.declared.chunk.Grant.{Grant}
 use Rattle.chunks.specs.declared.chunk.Grant.TheVariants as grant
 use Rattle.chunks.proofs.Chunks.{allocated_within}
 use Rattle.area.specs.Record.{address_word}
-use Rattle.area.specs.declared.place.Place.TheVariants.{At}
 use Rattle.area.proofs.Places.{place_found}
 use Rattle.area.proofs.Placed.{by_place_lem}
 use Rattle.sheet.specs.Areas.{Areas, by_lengths, Image, image_of, chunk_at}
@@ -39,8 +40,6 @@ use Rattle.places.specs.declared.spot.Spot.{Spot}
 use Rattle.places.proofs.Chunks.{chunk_long}
 use Rattle.held.specs.Held.{holding, held_as, held_by, held_chunk, held_of, HeldWithin}
 use Rattle.held.specs.declared.Holding.{Holding}
-use Rattle.held.specs.declared.Held.{Held}
-use Rattle.held.specs.declared.Held.TheVariants.{Buffer, Refused}
 
 -- ---- in an image
 
@@ -57,9 +56,9 @@ pub record HeldIn (m : Image) (address : ℕ) (p : Holding) : Type 0 where
   pub granted : lawful_size p.spot.sheet.format.profile p.spot.sheet.size p.grant ≡ true
   pub starts : address ≡ buffer_start p.spot
 
-abbrev HeldIf : Image → ℕ → Held → Type 0
-HeldIf m address (Buffer p) = HeldIn m address p
-HeldIf m address (Refused why) = Unit {0}
+abbrev HeldIf : Image → ℕ → Result Holding Refusal → Type 0
+HeldIf m address (Ok p) = HeldIn m address p
+HeldIf m address (Err why) = Unit {0}
 
 module _ (m : Image) (address : ℕ) (p : Spot)
     (known : (q : Grant) → lawful_size p.sheet.format.profile p.sheet.size q ≡ true → HeldIn m address (holding p q)) where
@@ -106,21 +105,21 @@ held_if m address o =
     tt)
     tt
   where
-    P : Held → Type 0
+    P : Result Holding Refusal → Type 0
     P = HeldIf m address
 
 -- the record that T0 names decides: the buffer is held by its chunk where that record names it
-module _ (m : Image) (c : List ℕ) (address i j : ℕ) (e : record_of m.sheet (tag_at m.sheet.format c).t0 ≡ At j) where
+module _ (m : Image) (c : List ℕ) (address i j : ℕ) (e : record_of m.sheet (tag_at m.sheet.format c).t0 ≡ Some j) where
   pub chunk_named : address_word m.sheet.format m.records j ≡ address
       → held_chunk m c address i ≡ held_by (pattern_of (tag_at m.sheet.format c)) c (spot m.sheet i j)
   unfolding held_chunk
   chunk_named n = rw (e, eq-eqb (address_word m.sheet.format m.records j) address n)
 
-  pub chunk_unnamed : address_word m.sheet.format m.records j ≢ address → held_chunk m c address i ≡ Refused (Damage BadTag)
+  pub chunk_unnamed : address_word m.sheet.format m.records j ≢ address → held_chunk m c address i ≡ Err (Damage BadTag)
   unfolding held_chunk
   chunk_unnamed n = rw (e, ne_eqb (address_word m.sheet.format m.records j) address n)
 
-pub held_known : (m : Image) (address : ℕ) (p : Holding) → OpenImage m → held_of m address ≡ Buffer p → HeldIn m address p
+pub held_known : (m : Image) (address : ℕ) (p : Holding) → OpenImage m → held_of m address ≡ Ok p → HeldIn m address p
 held_known m address p o e = subst (HeldIf m address) e (held_if m address o)
 
 -- ---- in the areas of a call
@@ -135,7 +134,7 @@ pub record HeldAt (profile : Profile) (a : Areas) (address : ℕ) (p : Holding) 
 abbrev pub OpenAreas : Profile → Areas → Sheet → Type 0
 OpenAreas profile a g = Opens profile a.sheet (length a.heap) (length a.records) g
 
-pub held_at : (profile : Profile) (a : Areas) (g : Sheet) (address : ℕ) (p : Holding) → OpenAreas profile a g → held_of (image_of a g) address ≡ Buffer p
+pub held_at : (profile : Profile) (a : Areas) (g : Sheet) (address : ℕ) (p : Holding) → OpenAreas profile a g → held_of (image_of a g) address ≡ Ok p
     → HeldAt profile a address p
 held_at profile a g address p o e =
     let k = held_known (image_of a g) address p o.opens e in

@@ -11,7 +11,6 @@ ghost use Rattle.area.specs.Place.{PartAt};
 ghost use Rattle.history.specs.Log.{row_size, rows_of, log_right, row_record, row_uptime};
 
 use tags::format::Format;
-use words::word;
 
 pub const ROW: usize = 16;
 
@@ -29,22 +28,20 @@ pub fn rows(len: usize) -> usize
 }
 
 // Whether a log can have so many bytes.
+#[tactic(auto, unfolding(crate::specs::Log::log_right))]
 pub fn is_log(len: usize) -> bool
     ensures { result ≡ log_right len }
 {
-    if len % ROW != 0 {
-        return false;
-    }
-    len <= MOST
+    len % ROW == 0 && len <= MOST
 }
 
 // The address of the record that row k names.
+#[tactic(auto, unfolding(crate::specs::Log::row_record))]
 pub fn row_record(f: Format, log: &[u8], k: usize) -> u32
     requires { k * row_size + row_size ≤ length log.now }
     ensures { result ≡ row_record f log.now k }
 {
-    let o = f.order;
-    word::read_u32(o, log, k * ROW + RECORD)
+    f.order.read_u32(log, k * ROW + RECORD)
 }
 
 // Row k, as a part of the log.
@@ -54,15 +51,14 @@ pub fn row<'a>(log: &'a [u8], k: usize) -> &'a [u8]
     ensures place { PartAt log.entry (k * row_size) result }
 {
     let at = k * ROW;
-    let end = at + ROW;
-    &log[at..end]
+    &log[at..at + ROW]
 }
 
 // The uptime of row k.
+#[tactic(auto, unfolding(crate::specs::Log::row_uptime))]
 pub fn row_uptime(f: Format, log: &[u8], k: usize) -> u32
     requires { k * row_size + row_size ≤ length log.now }
     ensures { result ≡ row_uptime f log.now k }
 {
-    let o = f.order;
-    word::read_u32(o, log, k * ROW + UPTIME)
+    f.order.read_u32(log, k * ROW + UPTIME)
 }

@@ -4,40 +4,48 @@
 // from record 0 on in order; any other request is refused, and every lent byte is as before.
 #![tactic(auto)]
 
-ghost use Rattle.std.specs.Prelude.{◌≡◌};
-ghost use Rattle.sheet.specs.Areas.{areas, by_lengths, outcome};
+ghost use Rattle.std.specs.Prelude.{◌≡◌, length, IfOk};
+ghost use Rattle.sheet.specs.Areas.{by_lengths, outcome};
+ghost use Rattle.sheet.specs.Lent.{seen, lent, Call};
 ghost use Rattle.layout.specs.Layout.{laid_areas, lay_out_of, lay_out_plan, Planned};
 
 use geometry::sheet::Sheet;
-use sheet::opening::Opened;
+use sheet::lent::{Image, ImageMut};
 use sheet::{fields, opening};
 use tags::format::Format;
-use tags::refusal::{Answer, Refusal};
+use tags::refusal::Refusal;
 
 // The chunks and the records.
 mod areas;
 
-// Whether areas of these lengths can be laid out with these numbers: the tests 1, 2 and 3.
-fn plan(g: Sheet, sheet_len: usize, heap_len: usize, records_len: usize) -> Opened
-    ensures { result ≡ lay_out_plan g sheet_len heap_len records_len }
+// Whether these areas can be laid out with these numbers: the tests 1, 2 and 3.
+#[tactic(auto, unfolding(crate::specs::Layout::lay_out_plan))]
+fn plan(g: Sheet, image: &Image) -> Result<Sheet, Refusal>
+    ensures sheet { result
+        ≡ lay_out_plan g (length image.now.sheet.now) (length image.now.heap.now)
+        (length image.now.records.now) }
+    ensures planned { IfOk result (by_lengths Planned (seen image.now)) }
 {
-    if sheet_len != fields::LENGTH {
-        return Opened::Refused(Refusal::BadSheet);
+    if image.sheet.len() != fields::LENGTH {
+        return Err(Refusal::BadSheet);
     }
-    opening::judge_numbers(g, heap_len, records_len)
+    opening::judge_numbers(g, image.heap.len(), image.records.len())
 }
 
 // Writes all three areas.
-fn commit(sheet: &mut [u8], heap: &mut [u8], records: &mut [u8], g: Sheet)
-    requires { by_lengths Planned (areas sheet.old heap.old records.old) g }
-    ensures { areas sheet.new heap.new records.new ≡ laid_areas g }
+#[tactic(auto, unfolding(crate::specs::Layout::laid_areas))]
+fn commit(image: &mut ImageMut, g: Sheet)
+    requires { by_lengths Planned (lent image.old) g }
+    ensures { Call result image.old image.new (outcome result (laid_areas g)) }
 {
-    fields::write(sheet, g);
-    areas::write_heap(heap, g);
-    areas::write_records(records, g);
+    fields::write(image.sheet, g);
+    areas::write_heap(image.heap, g);
+    areas::write_records(image.records, g);
 }
 
-// Lays an image out, or refuses and leaves every byte as it was.
+// Lays an image out, or refuses and leaves every byte as it was. The six numbers stay apart, as the C interface and `lay_out_of` take
+// them: no caller holds them as one value, and the first line makes the sheet of them.
+#[tactic(auto, unfolding(crate::specs::Layout::lay_out_of))]
 pub fn lay_out(
     f: Format,
     cache: u32,
@@ -45,20 +53,13 @@ pub fn lay_out(
     record_base: u32,
     size: u32,
     count: u32,
-    sheet: &mut [u8],
-    heap: &mut [u8],
-    records: &mut [u8],
-) -> Answer
-    ensures { outcome result (areas sheet.new heap.new records.new)
-        ≡ lay_out_of (areas sheet.old heap.old records.old) f cache heap_base record_base size count }
+    image: &mut ImageMut,
+) -> Result<u32, Refusal>
+    ensures { Call result image.old image.new
+        (lay_out_of (lent image.old) f cache heap_base record_base size count) }
 {
     let asked = Sheet::laid(f, cache, heap_base, record_base, size, count);
-    let planned = plan(asked, sheet.len(), heap.len(), records.len());
-    match planned {
-        Opened::Refused(why) => Answer::Refused(why),
-        Opened::Sheet(g) => {
-            commit(sheet, heap, records, g);
-            Answer::Value(0)
-        }
-    }
+    let g = plan(asked, &image.view())?;
+    commit(image, g);
+    Ok(0)
 }

@@ -1,8 +1,8 @@
 -- Every call keeps the invariant, and so does every list of calls on an image that was laid out. Assumes nothing.
+use Rattle.std.specs.Prelude.{Some, None, Err, Option}
 use mathlib.Core.Path.{◌≡◌, refl, sym, ap, ◌∙◌, subst}
 use mathlib.Core.Bool.{Bool, true, false}
 use mathlib.Core.List.{List, [], ◌∷◌}
-use mathlib.Core.Option.{Option, none, some}
 use Prim.Native.Nat.{ℕ, ◌+◌, ◌<◌}
 use native.Mathlib.Omega.{arith}
 use borrow.Author.Tests.{leb-true}
@@ -20,13 +20,10 @@ use Rattle.layout.specs.Layout.{laid_areas}
 use Rattle.free.specs.Free.{same_grant}
 use Rattle.client.specs.Store.{stored_areas}
 use Rattle.geometry.specs.declared.sheet.Sheet.{Sheet}
-use Rattle.area.specs.declared.place.Place.{Place}
-use Rattle.area.specs.declared.place.Place.TheVariants as place
 use Rattle.area.proofs.Places.{address_one, place_found}
 use Rattle.tags.specs.declared.format.Format.{Format}
 use Rattle.tags.specs.declared.refusal.Refusal.{Refusal}
 use Rattle.tags.specs.declared.refusal.Refusal.TheVariants.{NoThread}
-use Rattle.tags.specs.declared.refusal.Answer.TheVariants as answer
 use Rattle.ledger.specs.Ledger.{Entry, Ledger, Call, allocate, free, store, by_nobody, put, fresh, overwritten, after_call, RunState, begun, step, run}
 use Rattle.ledger.proofs.Counts.{put_same, put_other, range}
 use Rattle.ledger.proofs.Invariant.{Laid, outs, Invariant, chunk_some}
@@ -47,7 +44,7 @@ pub record RunInvariant (g : Sheet) (w : RunState) : Type 0 where
   pub balance : w.ledger.allocations ≡ w.ledger.frees + out_count g w.ledger.out
 
 -- B5 (a refused call)
-refused_ledger : (f : Format) (size : ℕ) (call : Call) (why : Refusal) (l : Ledger) → after_call f size call (answer.Refused why) l ≡ l
+refused_ledger : (f : Format) (size : ℕ) (call : Call) (why : Refusal) (l : Ledger) → after_call f size call (Err why) l ≡ l
 refused_ledger f size (allocate q t) why l = refl
 refused_ledger f size (free address q t) why l = refl
 refused_ledger f size (store address offset bytes) why l = refl
@@ -64,19 +61,19 @@ module _ (g : Sheet) (laid : Laid g) where
 
   -- an address is no buffer's, or that of one that is not out, or of one that is
   module _ (out : ℕ → Option Entry) (P : ℕ → Type 0)
-      (stray : (x : ℕ) → buffer_of g x ≡ place.Nowhere → P x)
-      (inside : (j : ℕ) → j < g.count → out (buffer_address g j) ≡ none → P (buffer_address g j))
-      (outside : (j : ℕ) → j < g.count → (o : Entry) → out (buffer_address g j) ≡ some o → P (buffer_address g j)) where
+      (stray : (x : ℕ) → buffer_of g x ≡ None → P x)
+      (inside : (j : ℕ) → j < g.count → out (buffer_address g j) ≡ None → P (buffer_address g j))
+      (outside : (j : ℕ) → j < g.count → (o : Entry) → out (buffer_address g j) ≡ Some o → P (buffer_address g j)) where
     at : (j : ℕ) → j < g.count → (o : Option Entry) → out (buffer_address g j) ≡ o → P (buffer_address g j)
-    at j h none e = inside j h e
-    at j h (some o) e = outside j h o e
+    at j h None e = inside j h e
+    at j h (Some o) e = outside j h o e
 
     pub by_address : (x : ℕ) → P x
     by_address x = go (buffer_of g x) refl
       where
-        go : (p : Place) → buffer_of g x ≡ p → P x
-        go place.Nowhere e = stray x e
-        go (place.At j) e =
+        go : (p : Option ℕ) → buffer_of g x ≡ p → P x
+        go None e = stray x e
+        go (Some j) e =
             let f = place_found g.heap_base g.chunk g.count x j e in
             subst P (sym f.1) (at j f.0 (out (buffer_address g j)) refl)
 
@@ -96,7 +93,7 @@ module _ (g : Sheet) (laid : Laid g) where
         head = next_word g.format w.areas.records j;
         chain = js;
         invariant = granted_keeps g laid q t e v;
-        balance = omega (arith, count-put j (taken_below g laid v) (some (fresh g.format g.size q)) w.ledger.out, ap outs (taken_in g laid v));
+        balance = omega (arith, count-put j (taken_below g laid v) (Some (fresh g.format g.size q)) w.ledger.out, ap outs (taken_in g laid v));
       })
 
   free_keeps : (w : RunState) (address : ℕ) (q : Grant) (t : Stamp) → is_nobody t.thread ≡ false → RunInvariant g w
@@ -108,7 +105,7 @@ module _ (g : Sheet) (laid : Laid g) where
       (λ j h o e. go j h o e (same_grant o.grant q) refl)
       address
     where
-      go : (j : ℕ) → j < g.count → (o : Entry) → w.ledger.out (buffer_address g j) ≡ some o → (b : Bool) → same_grant o.grant q ≡ b
+      go : (j : ℕ) → j < g.count → (o : Entry) → w.ledger.out (buffer_address g j) ≡ Some o → (b : Bool) → same_grant o.grant q ≡ b
           → RunInvariant g (step g.format g.size (free (buffer_address g j) q t) w)
       go j h o e true s =
           rw (free-done g laid f.invariant j h o e q t n s)
@@ -116,7 +113,7 @@ module _ (g : Sheet) (laid : Laid g) where
             head = record_address g j;
             chain = j ∷ f.chain;
             invariant = freed_keeps g laid j o t f.invariant h e;
-            balance = omega (arith, f.balance, count-put j h none w.ledger.out, ap outs e);
+            balance = omega (arith, f.balance, count-put j h None w.ledger.out, ap outs e);
           })
       go j h o e false s = rw (free_other g laid f.invariant j h o e q t n s) f
 
@@ -129,7 +126,7 @@ module _ (g : Sheet) (laid : Laid g) where
       (λ j h o e. go j h o e (leb (offset + length bytes) (grant_size g.size o.grant)) refl)
       address
     where
-      go : (j : ℕ) → j < g.count → (o : Entry) → w.ledger.out (buffer_address g j) ≡ some o
+      go : (j : ℕ) → j < g.count → (o : Entry) → w.ledger.out (buffer_address g j) ≡ Some o
           → (b : Bool) → leb (offset + length bytes) (grant_size g.size o.grant) ≡ b
           → RunInvariant g (step g.format g.size (store (buffer_address g j) offset bytes) w)
       go j h o e true s =

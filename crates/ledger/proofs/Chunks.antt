@@ -1,9 +1,9 @@
 -- What a chunk says, free or granted, with any client bytes written over it: proved once over the buffer size and the format. Assumes nothing.
+use Rattle.std.specs.Prelude.{Option, None, Some}
 use mathlib.Core.Path.{◌≡◌, refl, sym, ap, ◌∙◌}
 use mathlib.Core.Bool.{true}
 use mathlib.Core.Logic.{◌≢◌, inr}
 use mathlib.Core.List.{List, [], ◌∷◌, ◌++◌, append_assoc}
-use mathlib.Core.Option.{Option, none, some}
 use Prim.Native.Nat.{ℕ, ◌+◌, ◌-◌, ◌%◌, ◌≤◌, ◌<◌}
 use native.Mathlib.Nat.{add-zero}
 use native.Mathlib.Decide.{ℕ_discrete}
@@ -181,18 +181,18 @@ free_sound f size a =
 -- ---- a chunk as the ledger has it
 
 abbrev pub state_for : Option Entry → State
-state_for none = state.Free
-state_for (some o) = state.Allocated
+state_for None = state.Free
+state_for (Some o) = state.Allocated
 
 -- the chunk, with a record at the address a
 abbrev pub chunk_for : Format → ℕ → ℕ → Option Entry → List ℕ
-chunk_for f size a none = free_chunk f size a
-chunk_for f size a (some o) = sets (granted_chunk f size a o.grant) (client_offset f.profile o.grant) o.client
+chunk_for f size a None = free_chunk f size a
+chunk_for f size a (Some o) = sets (granted_chunk f size a o.grant) (client_offset f.profile o.grant) o.client
 
 -- what is known of an entry
 abbrev pub LawfulEntry : Profile → ℕ → Option Entry → Type 0
-LawfulEntry p size none = Unit {0}
-LawfulEntry p size (some o) = (lawful_size p size o.grant ≡ true) × (length o.client ≡ grant_size size o.grant)
+LawfulEntry p size None = Unit {0}
+LawfulEntry p size (Some o) = (lawful_size p size o.grant ≡ true) × (length o.client ≡ grant_size size o.grant)
 
 module _ (f : Format) (size a : ℕ) (few : size ≤ 4096) (word : a < 4294967296) where
   tag_word : (s : State) → (tag_of a s).t1 < 4294967296
@@ -256,8 +256,8 @@ module _ (f : Format) (size a : ℕ) (few : size ≤ 4096) (word : a < 429496729
 
   -- T0 and T1 are the record's
   pub tag_for : (o : Option Entry) → LawfulEntry f.profile size o → tag_at f (chunk_for f size a o) ≡ tag_of a (state_for o)
-  tag_for none l = tag_is free-ends
-  tag_for (some o) l = granted-tag o.grant l.0 o.client l.1
+  tag_for None l = tag_is free-ends
+  tag_for (Some o) l = granted-tag o.grant l.0 o.client l.1
 
   module _ (q : ℕ) (h : coded_size f.profile q ≤ size) (vs : List ℕ) (e : length vs ≡ q) where
     -- the request's coded size, the chunk but for its header, and with the client's bytes
@@ -329,30 +329,30 @@ granted-part f size a (grant.Sized q) l =
     ∙ filled-part f size a (code_of s) h q (header_words f.profile) (omega (arith, (lawful-within f.profile size q (grant.Sized q) refl l).1))
 
 pub fresh_chunk : (f : Format) (size a : ℕ) (q : Grant) → lawful_size f.profile size q ≡ true
-    → granted_chunk f size a q ≡ chunk_for f size a (some (fresh f size q))
+    → granted_chunk f size a q ≡ chunk_for f size a (Some (fresh f size q))
 fresh_chunk f size a q l =
     let at = client_offset f.profile q in
     sym (sets_same (granted_chunk f size a q) at (grant_size size q) (omega (arith, grant-within f.profile size q l, length-granted_chunk f size a q)))
     ∙ ap (λ (x : List ℕ). sets (granted_chunk f size a q) at x) (granted-part f size a q l)
 
-pub fresh-lawful : (f : Format) (size : ℕ) (q : Grant) → lawful_size f.profile size q ≡ true → LawfulEntry f.profile size (some (fresh f size q))
+pub fresh-lawful : (f : Format) (size : ℕ) (q : Grant) → lawful_size f.profile size q ≡ true → LawfulEntry f.profile size (Some (fresh f size q))
 fresh-lawful f size q l = (l, length-repeated (grant_size size q) (word_bytes f grant_fill))
 
 -- the client bytes
-pub client-part : (f : Format) (size a : ℕ) (o : Entry) → LawfulEntry f.profile size (some o)
-    → part (chunk_for f size a (some o)) (client_offset f.profile o.grant) (grant_size size o.grant) ≡ o.client
+pub client-part : (f : Format) (size a : ℕ) (o : Entry) → LawfulEntry f.profile size (Some o)
+    → part (chunk_for f size a (Some o)) (client_offset f.profile o.grant) (grant_size size o.grant) ≡ o.client
 client-part f size a o l =
     part_written (granted_chunk f size a o.grant) o.client (client_offset f.profile o.grant) (grant_size size o.grant) l.1
     (omega (arith, grant-within f.profile size o.grant l.0, length-granted_chunk f size a o.grant))
 
 -- a store into them
-pub store_chunk : (f : Format) (size a offset : ℕ) (bytes : List ℕ) (o : Entry) → LawfulEntry f.profile size (some o)
+pub store_chunk : (f : Format) (size a offset : ℕ) (bytes : List ℕ) (o : Entry) → LawfulEntry f.profile size (Some o)
     → offset + length bytes ≤ grant_size size o.grant
-    → sets (chunk_for f size a (some o)) (client_offset f.profile o.grant + offset) bytes ≡ chunk_for f size a (overwritten offset bytes (some o))
+    → sets (chunk_for f size a (Some o)) (client_offset f.profile o.grant + offset) bytes ≡ chunk_for f size a (overwritten offset bytes (Some o))
 store_chunk f size a offset bytes o l h =
     sets_over (granted_chunk f size a o.grant) o.client bytes (client_offset f.profile o.grant) offset (omega (arith, l.1))
     (omega (arith, l.1, grant-within f.profile size o.grant l.0, length-granted_chunk f size a o.grant))
 
-pub store-lawful : (p : Profile) (size offset : ℕ) (bytes : List ℕ) (o : Entry) → LawfulEntry p size (some o)
-    → LawfulEntry p size (overwritten offset bytes (some o))
+pub store-lawful : (p : Profile) (size offset : ℕ) (bytes : List ℕ) (o : Entry) → LawfulEntry p size (Some o)
+    → LawfulEntry p size (overwritten offset bytes (Some o))
 store-lawful p size offset bytes o l = (l.0, length-sets o.client offset bytes ∙ l.1)

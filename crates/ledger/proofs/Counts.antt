@@ -1,15 +1,14 @@
 -- The numbers from one on, and the ledger's map. Assumes nothing.
+use Rattle.std.specs.Prelude.{None, Option}
 use mathlib.Core.Path.{◌≡◌, refl, sym, ap, ◌∙◌, subst}
 use mathlib.Core.Logic.{◌≢◌}
 use mathlib.Core.List.{List, [], ◌∷◌}
-use mathlib.Core.Option.{Option}
 use Prim.Native.Nat.{ℕ, zero, suc, ◌+◌, ◌≤◌, ◌<◌}
 use native.Mathlib.Decide.{ℕ_discrete}
 use native.Mathlib.Omega.{arith}
 use borrow.Author.Tests.{eq-eqb, ne_eqb}
 use Rattle.area.specs.Place.{place_address, place_of}
 use Rattle.chain.specs.Chain.{occ}
-use Rattle.area.specs.declared.place.Place.TheVariants.{Nowhere}
 use Rattle.area.proofs.Places.{address_one, place_missed}
 use Rattle.chain.proofs.MetRecords.{occ-none, occ_here, occ-apart}
 use Rattle.ledger.specs.Ledger.{Entry, put}
@@ -65,5 +64,5 @@ module _ (base stride n j : ℕ) (some-stride : 0 < stride) (o : Option Entry) (
           (there i h ne)
 
   -- an address that is no buffer's
-  pub stray_put : (x : ℕ) → j < n → place_of base stride n x ≡ Nowhere → put (place_address base stride j) o f x ≡ f x
+  pub stray_put : (x : ℕ) → j < n → place_of base stride n x ≡ None → put (place_address base stride j) o f x ≡ f x
   stray_put x h e = put_other (place_address base stride j) x o f (place_missed base stride n x some-stride e j h)

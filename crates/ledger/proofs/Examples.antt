@@ -1,8 +1,9 @@
 -- An image of two buffers, laid out under either profile in either order and run by evaluation: the claim is not empty. Under the kernel's profile the
 -- buffers have 8 bytes, under userland's 16, so that the same requests fit behind the header. Assumes nothing.
+use Rattle.std.specs.Prelude.{Result, Ok, Err, None, Some}
+use Rattle.tags.specs.declared.refusal.Refusal.{Refusal}
 use mathlib.Core.Path.{◌≡◌, refl}
 use mathlib.Core.List.{List, [], ◌∷◌}
-use mathlib.Core.Option.{none, some}
 use Prim.Native.Nat.{ℕ, ◌+◌, ◌*◌}
 use lib.Dec.{lit<}
 use lib.ListN.{replicate}
@@ -34,8 +35,6 @@ use Rattle.free.specs.Free.{free_plan, freed_areas, free_of}
 use Rattle.client.specs.Store.{store_plan, stored_areas, store_of}
 use Rattle.tags.specs.declared.refusal.Refusal.TheVariants.{NoSuchBuffer, NoRoom, BadSize, OtherGrant, NoThread}
 use Rattle.tags.specs.Refusal.{done}
-use Rattle.tags.specs.declared.refusal.Answer.TheVariants as answer
-use Rattle.tags.specs.declared.refusal.Answer.{Answer}
 use Rattle.ledger.specs.Ledger.{Call, allocate, free, store, result_of, put, RunState, begun, run, Sound}
 use Rattle.ledger.proofs.Theorem.{theorem}
 
@@ -60,7 +59,7 @@ laid₀ Userland o = refl
 state₀ : Profile → Order → List Call → RunState
 state₀ p o calls = run (format_of p o) (size₀ p) calls (begun (lay_out_of (areas₀ p) (format_of p o) 64 4096 8192 (size₀ p) 2).areas)
 
-answer₀ : Profile → Order → List Call → Call → Answer
+answer₀ : Profile → Order → List Call → Call → Result ℕ Refusal
 answer₀ p o calls call = (result_of p call (state₀ p o calls).areas).answer
 
 -- nobody asks for a buffer; a grant of 5 bytes, two bytes stored from offset 1 on, a store past the 5 bytes; nobody gives the buffer back; a whole grant
@@ -86,8 +85,8 @@ client₀ LowFirst = 0xfe ∷ 17 ∷ 18 ∷ 0xba ∷ 0xfe ∷ []
 -- what is evaluated: both are out, the first with the bytes stored between those of the fill; two are granted and none freed
 Out : Profile → Order → Type 0
 Out p o =
-    ((state₀ p o calls₀).ledger.out 4096 ≡ some (record { grant = grant.Sized 5; client = client₀ o }))
-    × ((state₀ p o calls₀).ledger.out (second₀ p) ≡ some (record { grant = grant.Whole; client = repeated (size₀ p) (word_bytes (format_of p o) grant_fill) }))
+    ((state₀ p o calls₀).ledger.out 4096 ≡ Some (record { grant = grant.Sized 5; client = client₀ o }))
+    × ((state₀ p o calls₀).ledger.out (second₀ p) ≡ Some (record { grant = grant.Whole; client = repeated (size₀ p) (word_bytes (format_of p o) grant_fill) }))
     × ((state₀ p o calls₀).ledger.allocations ≡ 2)
     × ((state₀ p o calls₀).ledger.frees ≡ 0)
 
@@ -95,19 +94,19 @@ Out p o =
 -- these
 Refuses : Profile → Order → Type 0
 Refuses p o =
-    (answer₀ p o calls₀ (allocate (grant.Sized 1) (stamp_of 4 7)) ≡ answer.Refused NoRoom)
-    × (answer₀ p o calls₀ (allocate (grant.Sized 9) (stamp_of 4 7)) ≡ answer.Refused BadSize)
-    × (answer₀ p o calls₀ (free 4096 (grant.Sized 6) (stamp_of 4 7)) ≡ answer.Refused OtherGrant)
-    × (answer₀ p o calls₀ (free 4097 (grant.Sized 5) (stamp_of 4 7)) ≡ answer.Refused NoSuchBuffer)
-    × (answer₀ p o calls₀ (allocate (grant.Sized 9) (stamp_of 4 0)) ≡ answer.Refused NoThread)
-    × (answer₀ p o calls₀ (free 4097 (grant.Sized 6) (stamp_of 4 0)) ≡ answer.Refused NoThread)
+    (answer₀ p o calls₀ (allocate (grant.Sized 1) (stamp_of 4 7)) ≡ Err NoRoom)
+    × (answer₀ p o calls₀ (allocate (grant.Sized 9) (stamp_of 4 7)) ≡ Err BadSize)
+    × (answer₀ p o calls₀ (free 4096 (grant.Sized 6) (stamp_of 4 7)) ≡ Err OtherGrant)
+    × (answer₀ p o calls₀ (free 4097 (grant.Sized 5) (stamp_of 4 7)) ≡ Err NoSuchBuffer)
+    × (answer₀ p o calls₀ (allocate (grant.Sized 9) (stamp_of 4 0)) ≡ Err NoThread)
+    × (answer₀ p o calls₀ (free 4097 (grant.Sized 6) (stamp_of 4 0)) ≡ Err NoThread)
 
 -- after a free the buffer isn't out, and it is the one that is granted next
 Back : Profile → Order → Type 0
 Back p o =
-    ((state₀ p o calls₁).ledger.out 4096 ≡ none)
+    ((state₀ p o calls₁).ledger.out 4096 ≡ None)
     × ((state₀ p o calls₁).ledger.frees ≡ 1)
-    × (answer₀ p o calls₁ (allocate (grant.Sized 8) (stamp_of 4 7)) ≡ answer.Value 4096)
+    × (answer₀ p o calls₁ (allocate (grant.Sized 8) (stamp_of 4 7)) ≡ Ok 4096)
 
 evaluated : (p : Profile) (o : Order) → Out p o × Refuses p o × Back p o
 unfolding size₀ second₀ areas₀ state₀ answer₀ calls₀ calls₁ client₀ Out Refuses Back run put lay_out_plan lay_out_of lawful sizes_lawful

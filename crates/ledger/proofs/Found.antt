@@ -1,9 +1,9 @@
 -- What the invariant says of the chain, of each buffer's own record and of its verdict. Assumes nothing.
+use Rattle.std.specs.Prelude.{Some, Option, None}
 use mathlib.Core.Path.{◌≡◌, refl, sym, ap, ◌∙◌}
 use mathlib.Core.Logic.{◌≢◌}
 use mathlib.Core.Bool.{false, not}
 use mathlib.Core.List.{List, [], ◌∷◌}
-use mathlib.Core.Option.{Option, none, some}
 use Prim.Native.Nat.{ℕ, zero, suc, ◌+◌, ◌≤◌, ◌<◌}
 use native.Mathlib.Decide.{ℕ_discrete}
 use native.Mathlib.Omega.{arith}
@@ -29,7 +29,6 @@ use Rattle.chain.specs.Pairing.{namers, the_one, own_in, own_of}
 use Rattle.verdicts.specs.Judge.{standing, is_freed_twice, is_at_rest, rest_verdict, chained_verdict, owned_verdict, verdict_of}
 use Rattle.geometry.specs.declared.sheet.Sheet.{Sheet}
 use Rattle.tags.specs.declared.ending.Ending.TheVariants.{End}
-use Rattle.chain.specs.declared.pairing.Own.TheVariants.{One}
 use Rattle.area.proofs.Places.{address_one}
 use Rattle.chain.proofs.Chains.{linked_chain}
 use Rattle.ledger.specs.Ledger.{Entry, as_granted, as_entered, allocated_one, found_allocated}
@@ -67,12 +66,12 @@ module _ (f : Format) (size a : ℕ) (few : size ≤ 4096) (word : a < 429496729
   owned_for : (o : Option Entry) → LawfulEntry f.profile size o → (k : ℕ) → k + outs o ≡ 1
       → owned_verdict f (chunk_for f size a o) a (standing (not (eqb k 0)) false 0) ≡ as_entered o
   unfolding owned_verdict chained_verdict is_freed_twice is_at_rest rest_verdict
-  owned_for none l k e =
+  owned_for None l k e =
       let q : k ≡ 1 = omega arith in
-      rw (pattern_for none l, first_for none l, eq-eqb a a refl, q) (free_sound f size a)
-  owned_for (some o) l k e =
+      rw (pattern_for None l, first_for None l, eq-eqb a a refl, q) (free_sound f size a)
+  owned_for (Some o) l k e =
       let q : k ≡ 0 = omega arith in
-      rw (pattern_for (some o) l, first_for (some o) l, eq-eqb a a refl, q) (granted_verdict f size a few word o.grant l.0 o.client l.1)
+      rw (pattern_for (Some o) l, first_for (Some o) l, eq-eqb a a refl, q) (granted_verdict f size a few word o.grant l.0 o.client l.1)
 
 -- what the ledger says is no fault, and is found allocated if it is out
 granted_sound : (q : Grant) → is_fault (verdict_number (as_granted q)) ≡ false
@@ -80,15 +79,15 @@ granted_sound grant.Whole = refl
 granted_sound (grant.Sized s) = refl
 
 pub entered_sound : (o : Option Entry) → is_fault (verdict_number (as_entered o)) ≡ false
-entered_sound none = refl
-entered_sound (some o) = granted_sound o.grant
+entered_sound None = refl
+entered_sound (Some o) = granted_sound o.grant
 
 module _ (g : Sheet) (laid : Laid g) {head : ℕ} {a : Areas} {out : ℕ → Option Entry} {chain : List ℕ} (v : Invariant g head a out chain) where
   -- the image
   abbrev pub image : Image
   image = image_of a (headed g head)
 
-  pub own_is : (i : ℕ) → i < g.count → own_of image i ≡ One i
+  pub own_is : (i : ℕ) → i < g.count → own_of image i ≡ Some i
   unfolding own_in
   own_is i h =
       ap the_one
@@ -110,8 +109,8 @@ granted_one grant.Whole = refl
 granted_one (grant.Sized s) = refl
 
 entered_one : (o : Option Entry) → allocated_one (as_entered o) ≡ outs o
-entered_one none = refl
-entered_one (some o) = granted_one o.grant
+entered_one None = refl
+entered_one (Some o) = granted_one o.grant
 
 -- the number found allocated is the number out
 pub found-count : (v : ℕ → Verdict) (o : ℕ → Option Entry) (n : ℕ) → ((i : ℕ) → i < n → v i ≡ as_entered (o i))

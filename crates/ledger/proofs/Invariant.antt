@@ -1,9 +1,9 @@
 -- The invariant: what the ledger and a list of records say of the three areas. Assumes nothing.
+use Rattle.std.specs.Prelude.{None, Ok, Option, Some}
 use mathlib.Core.Path.{◌≡◌}
 use mathlib.Core.Logic.{◌≢◌}
 use mathlib.Core.Bool.{true}
 use mathlib.Core.List.{List, [], ◌∷◌}
-use mathlib.Core.Option.{Option, none, some}
 use Prim.Native.Nat.{ℕ, ◌+◌, ◌≤◌, ◌<◌}
 use native.Mathlib.Decide.{dec_lt}
 use native.Mathlib.Omega.{arith}
@@ -17,8 +17,6 @@ use Rattle.area.proofs.Records.{record_least}
 use Rattle.chain.specs.Chain.{occ}
 use Rattle.sheet.specs.Fields.{sheet_bytes}
 use Rattle.geometry.specs.declared.sheet.Sheet.{Sheet}
-use Rattle.sheet.specs.declared.opening.Opened.TheVariants as opened
-use Rattle.area.specs.declared.place.Place.TheVariants.{Nowhere}
 use Rattle.geometry.proofs.Sheets.{record_word_lem}
 use Rattle.chain.proofs.Chains.{Linked}
 use Rattle.ledger.specs.Ledger.{Entry}
@@ -34,8 +32,8 @@ pub record Laid (g : Sheet) : Type 0 where
 
 -- 1 for a buffer that is out
 abbrev pub outs : Option Entry → ℕ
-outs none = 0
-outs (some o) = 1
+outs None = 0
+outs (Some o) = 1
 
 -- what the ledger says of the areas; `chain` lists the records of the buffers that are not out, in the chain's order
 pub record Invariant (g : Sheet) (head : ℕ) (a : Areas) (out : ℕ → Option Entry) (chain : List ℕ) : Type 0 where
@@ -48,7 +46,7 @@ pub record Invariant (g : Sheet) (head : ℕ) (a : Areas) (out : ℕ → Option 
   pub chunks : (j : ℕ) → j < g.count → chunk_in g a.heap j ≡ chunk_for g.format g.size (record_address g j) (out (buffer_address g j))
   pub names : (j : ℕ) → j < g.count → address_word g.format a.records j ≡ buffer_address g j
   pub entries : (j : ℕ) → j < g.count → LawfulEntry g.format.profile g.size (out (buffer_address g j))
-  pub stray : (x : ℕ) → buffer_of g x ≡ Nowhere → out x ≡ none
+  pub stray : (x : ℕ) → buffer_of g x ≡ None → out x ≡ None
 
 module _ (g : Sheet) (laid : Laid g) where
   -- a record's address is a word, and not 0
@@ -108,7 +106,7 @@ module _ (g : Sheet) (laid : Laid g) where
 
   module _ {head : ℕ} {a : Areas} {out : ℕ → Option Entry} {chain : List ℕ} (v : Invariant g head a out chain) where
     -- the image opens
-    pub opens : opening g.format.profile a ≡ opened.Sheet (headed g head)
+    pub opens : opening g.format.profile a ≡ Ok (headed g head)
     opens =
         rw v.sheet_is
         (sheet-opens (headed g head) (length a.heap) (length a.records) (fits head (head_fits (next_word g.format a.records) head chain v.linked))

@@ -1,9 +1,9 @@
 -- An accepted call keeps the invariant. Assumes nothing.
+use Rattle.std.specs.Prelude.{None, Option, Some}
 use mathlib.Core.Path.{◌≡◌, refl, sym, ap, ◌∙◌, subst}
 use mathlib.Core.Logic.{◌≢◌}
 use mathlib.Core.Bool.{true}
 use mathlib.Core.List.{List, ◌∷◌}
-use mathlib.Core.Option.{Option, none, some}
 use Prim.Native.Nat.{ℕ, ◌+◌, ◌*◌, ◌≤◌, ◌<◌}
 use native.Mathlib.Nat.{add-zero}
 use native.Mathlib.Omega.{arith}
@@ -16,7 +16,6 @@ use Rattle.chunks.proofs.Chunks.{length-free_chunk, length-granted_chunk, grant-
 use Rattle.chunks.specs.declared.chunk.Grant.{Grant}
 use Rattle.area.specs.Record.{record_size, stamped, with_next, next_at, buffer_at, next_word}
 use Rattle.area.specs.declared.record.Stamp.{Stamp}
-use Rattle.area.specs.declared.place.Place.TheVariants.{Nowhere}
 use Rattle.area.proofs.Records.{record_least, length-stamped, stamped_word, length_with_next, next-same, next_other, next_name}
 use Rattle.sheet.specs.Areas.{Areas, chunk_in}
 use Rattle.geometry.specs.Sheet.{headed, heap_length, buffer_address, record_address, buffer_of}
@@ -50,7 +49,7 @@ module _ (g : Sheet) (laid : Laid g) where
       → ((i : ℕ) → i < g.count → i ≢ j → P i (out (buffer_address g i))) → (i : ℕ) → i < g.count → P i (put (buffer_address g j) o out (buffer_address g i))
   each_entry j = at_put g.heap_base g.chunk g.count j (chunk_some g laid)
 
-  stray_entry : (j : ℕ) (o : Option Entry) (out : ℕ → Option Entry) (x : ℕ) → j < g.count → buffer_of g x ≡ Nowhere → put (buffer_address g j) o out x ≡ out x
+  stray_entry : (j : ℕ) (o : Option Entry) (out : ℕ → Option Entry) (x : ℕ) → j < g.count → buffer_of g x ≡ None → put (buffer_address g j) o out x ≡ out x
   stray_entry j = stray_put g.heap_base g.chunk g.count j (chunk_some g laid)
 
   -- a chunk that is written whole
@@ -62,12 +61,12 @@ module _ (g : Sheet) (laid : Laid g) where
   pub granted_keeps : {head : ℕ} {a : Areas} {out : ℕ → Option Entry} {j : ℕ} {js : List ℕ} (q : Grant) (t : Stamp)
       → lawful_size g.format.profile g.size q ≡ true → Invariant g head a out (j ∷ js)
       → Invariant g (next_word g.format a.records j) (granted_areas a q t (pair_at g laid head j))
-      (put (buffer_address g j) (some (fresh g.format g.size q)) out) js
+      (put (buffer_address g j) (Some (fresh g.format g.size q)) out) js
   unfolding granted_areas
   granted_keeps {head} {a} {out} {j} {js} q t l v =
       let h : j < g.count = taken_below g laid v in
       let at : head ≡ record_address g j = first_address g laid _ head j js v.linked in
-      let new : Option Entry = some (fresh g.format g.size q) in
+      let new : Option Entry = Some (fresh g.format g.size q) in
       let c = granted_chunk g.format g.size head q in
       let long : length c ≡ g.size + 16 = length-granted_chunk g.format g.size head q in
       let heap = sets a.heap (j * g.chunk) c in
@@ -97,8 +96,8 @@ module _ (g : Sheet) (laid : Laid g) where
 
   pub freed_keeps : {head : ℕ} {a : Areas} {out : ℕ → Option Entry} {chain : List ℕ} (j : ℕ) (o : Entry) (t : Stamp)
       → Invariant g head a out chain → j < g.count
-      → out (buffer_address g j) ≡ some o
-      → Invariant g (record_address g j) (freed_areas a t (pair_at g laid head j)) (put (buffer_address g j) none out) (j ∷ chain)
+      → out (buffer_address g j) ≡ Some o
+      → Invariant g (record_address g j) (freed_areas a t (pair_at g laid head j)) (put (buffer_address g j) None out) (j ∷ chain)
   unfolding freed_areas Linked
   freed_keeps {head} {a} {out} {chain} j o t v h e =
       let c = free_chunk g.format g.size (record_address g j) in
@@ -130,25 +129,25 @@ module _ (g : Sheet) (laid : Laid g) where
                 kept,
           ),
         );
-        each = each_entry j none out (λ i x. occ i (j ∷ chain) + outs x ≡ 1)
+        each = each_entry j None out (λ i x. occ i (j ∷ chain) + outs x ≡ 1)
             (omega (arith, occ_here j chain))
             (λ i k ne. omega (arith, v.each i k, occ-apart i j chain ne));
         only = λ i k. let ne : i ≢ j = omega arith in omega (arith, v.only i k, occ-apart i j chain ne);
-        chunks = each_entry j none out (λ i x. chunk_in g heap i ≡ chunk_for g.format g.size (record_address g i) x)
+        chunks = each_entry j None out (λ i x. chunk_in g heap i ≡ chunk_for g.format g.size (record_address g i) x)
             (same_chunk c a.heap j long v.heap_long h)
             (λ i k ne. whole_chunk c a.heap g.chunk i j (omega (arith, laid.law.sizes.chunks)) ne ∙ v.chunks i k);
         names = λ i k. stamped_word g.format before j t i buffer_at (omega arith) ∙ next_name g.format a.records j head i ∙ v.names i k;
-        entries = each_entry j none out (λ i x. LawfulEntry g.format.profile g.size x) tt (λ i k ne. v.entries i k);
-        stray = λ x q. stray_entry j none out x h q ∙ v.stray x q;
+        entries = each_entry j None out (λ i x. LawfulEntry g.format.profile g.size x) tt (λ i k ne. v.entries i k);
+        stray = λ x q. stray_entry j None out x h q ∙ v.stray x q;
       }
 
   pub stored_keeps : {head : ℕ} {a : Areas} {out : ℕ → Option Entry} {chain : List ℕ} (j : ℕ) (o : Entry) (offset : ℕ) (bytes : List ℕ)
-      → Invariant g head a out chain → j < g.count → out (buffer_address g j) ≡ some o → offset + length bytes ≤ grant_size g.size o.grant
-      → Invariant g head (stored_areas a offset bytes (hold g laid head j o.grant)) (put (buffer_address g j) (overwritten offset bytes (some o)) out) chain
+      → Invariant g head a out chain → j < g.count → out (buffer_address g j) ≡ Some o → offset + length bytes ≤ grant_size g.size o.grant
+      → Invariant g head (stored_areas a offset bytes (hold g laid head j o.grant)) (put (buffer_address g j) (overwritten offset bytes (Some o)) out) chain
   unfolding stored_areas
   stored_keeps {head} {a} {out} {chain} j o offset bytes v h e fits =
-      let l = entry_is g laid v j h (some o) e in
-      let new : Option Entry = overwritten offset bytes (some o) in
+      let l = entry_is g laid v j h (Some o) e in
+      let new : Option Entry = overwritten offset bytes (Some o) in
       let start = client_offset g.format.profile o.grant in
       let at = j * g.chunk + start + offset in
       let heap = sets a.heap at bytes in
@@ -166,7 +165,7 @@ module _ (g : Sheet) (laid : Laid g) where
         chunks = each_entry j new out (λ i x. chunk_in g heap i ≡ chunk_for g.format g.size (record_address g i) x)
             (ap (λ (x : ℕ). chunk_in g (sets a.heap x bytes) j) (sym same)
             ∙ part_inside bytes a.heap (j * g.chunk) g.chunk (start + offset) inside
-            ∙ ap (λ (x : List ℕ). sets x (start + offset) bytes) (chunk_is g laid v j h (some o) e)
+            ∙ ap (λ (x : List ℕ). sets x (start + offset) bytes) (chunk_is g laid v j h (Some o) e)
             ∙ store_chunk g.format g.size (record_address g j) offset bytes o l fits)
             (λ i k ne.
             ap (λ (x : ℕ). chunk_in g (sets a.heap x bytes) i) (sym same)

@@ -1,8 +1,9 @@
 -- The areas as they are laid out have the invariant. Assumes nothing.
+use Rattle.std.specs.Prelude.{Result, Ok, Err, None}
+use Rattle.tags.specs.declared.refusal.Refusal.{Refusal}
 use mathlib.Core.Path.{◌≡◌, refl, sym, ◌∙◌, subst}
 use mathlib.Core.Bool.{Bool, true, false, cond}
 use mathlib.Core.List.{List}
-use mathlib.Core.Option.{none}
 use Prim.Native.Nat.{ℕ, zero, suc, ◌+◌, ◌<◌}
 use native.Mathlib.Decide.{dec_lt}
 use native.Mathlib.Omega.{arith}
@@ -13,17 +14,14 @@ use Rattle.words.proofs.Parts.{length-flat, part-flat}
 use Rattle.tags.specs.Refusal.{done}
 use Rattle.tags.specs.declared.format.Format.{Format}
 use Rattle.tags.specs.declared.refusal.Refusal.TheVariants.{BadSheet, BadNumber, BadLength}
-use Rattle.tags.specs.declared.refusal.Answer.{Answer}
-use Rattle.tags.specs.declared.refusal.Answer.TheVariants.{Refused}
 use Rattle.area.specs.Record.{record_size, next_at, buffer_at, address_word, next_word}
 use Rattle.area.proofs.Records.{record_least, flat_word, whole-next, whole_name}
-use Rattle.sheet.specs.Areas.{Areas, Result, outcome, refused_with}
+use Rattle.sheet.specs.Areas.{Areas, Outcome, outcome, refused_with}
 use Rattle.sheet.specs.Fields.{sheet_length}
 use Rattle.geometry.specs.Sheet.{laid_sheet, buffer_address}
 use Rattle.geometry.specs.Limits.{lawful}
 use Rattle.sheet.specs.Opening.{lengths_right, measured, numbered, by_opened}
 use Rattle.geometry.specs.declared.sheet.Sheet.{Sheet}
-use Rattle.sheet.specs.declared.opening.Opened.TheVariants as opened
 use Rattle.geometry.proofs.Sheets.{lawful_known, buffer_word}
 use Rattle.layout.specs.Layout.{laid_chunk, link_to, laid_record, laid_areas, lay_out_plan, lay_out_of}
 use Rattle.layout.proofs.Layouts.{laid_chunk_long, laid_record_long, link_in, link_out}
@@ -68,7 +66,7 @@ module _ (g : Sheet) (laid : Laid g) where
         ),
       )
 
-  pub laid_invariant : g.head ≡ g.record_base → Invariant g g.head (laid_areas g) (λ x. none) (range 0 g.count)
+  pub laid_invariant : g.head ≡ g.record_base → Invariant g g.head (laid_areas g) (λ x. None) (range 0 g.count)
   unfolding laid_areas
   laid_invariant e = record {
     sheet_is = refl;
@@ -88,8 +86,8 @@ module _ (g : Sheet) (laid : Laid g) where
 -- ---- an accepted lay out
 
 three : (p q r : Bool) (a : Areas) (g : Sheet) →
-    let o = cond p (cond q (cond r (opened.Sheet g) (opened.Refused BadLength)) (opened.Refused BadNumber)) (opened.Refused BadSheet) in
-    let laid = by_opened {A = Result Answer} o (λ s. outcome done (laid_areas s)) (λ why. refused_with (Refused why) a) in
+    let o = cond p (cond q (cond r (Ok g) (Err BadLength)) (Err BadNumber)) (Err BadSheet) in
+    let laid = by_opened {A = Outcome (Result ℕ Refusal)} o (λ s. outcome done (laid_areas s)) (λ why. refused_with (Err why) a) in
     laid.answer ≡ done → (q ≡ true) × (laid.areas ≡ laid_areas g)
 three true true true a g e = (refl, refl)
 three true true false a g e = absurd (let z : ◌≡◌ {A = ℕ} 0 1 = cc in omega arith)

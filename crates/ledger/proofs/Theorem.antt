@@ -1,9 +1,10 @@
 -- The theorem: after an accepted lay out and any list of calls the claim holds. Assumes nothing.
+use Rattle.std.specs.Prelude.{Some, Result, Ok, Err, Option, None}
+use Rattle.tags.specs.declared.refusal.Refusal.{Refusal}
 use mathlib.Core.Path.{◌≡◌, refl, sym, ap, ◌∙◌}
 use mathlib.Core.Logic.{◌≢◌, ◌↔◌}
 use mathlib.Core.Bool.{true, false, and-eq-true_iff}
 use mathlib.Core.List.{List, [], ◌∷◌}
-use mathlib.Core.Option.{Option, none, some}
 use Prim.Native.Nat.{ℕ, ◌+◌, ◌<◌}
 use native.Mathlib.Decide.{dec_lt}
 use native.Mathlib.Omega.{arith}
@@ -14,19 +15,15 @@ use Rattle.tags.specs.declared.format.Profile.{Profile}
 use Rattle.chunks.specs.Chunk.{lawful_size}
 use Rattle.chunks.specs.declared.chunk.Grant.{Grant}
 use Rattle.area.specs.declared.record.Stamp.{Stamp}
-use Rattle.sheet.specs.Areas.{Areas, Result, is_nobody}
+use Rattle.sheet.specs.Areas.{Areas, Outcome, is_nobody}
 use Rattle.geometry.specs.Sheet.{laid_sheet, headed, buffer_address}
 use Rattle.chain.specs.Chain.{Chain, occ, chain_of}
 use Rattle.chain.specs.Pairing.{own_of}
 use Rattle.verdicts.specs.Judge.{verdict_of}
 use Rattle.allocation.specs.Allocate.{allocate_of}
-use Rattle.client.specs.Show.{shown_of}
+use Rattle.client.specs.Show.{shown_of, shown}
 use Rattle.geometry.specs.declared.sheet.Sheet.{Sheet}
-use Rattle.chain.specs.declared.pairing.Own.TheVariants.{One}
 use Rattle.tags.specs.declared.refusal.Refusal.TheVariants.{NoRoom}
-use Rattle.tags.specs.declared.refusal.Answer.{Answer}
-use Rattle.tags.specs.declared.refusal.Answer.TheVariants as answer
-use Rattle.client.specs.declared.show.Shown.TheVariants as shown
 use Rattle.chain.proofs.MetRecords.{occ-none}
 use Rattle.ledger.specs.Ledger.{Entry, RunState, lawful_request, image_at, times_met, is_out, Sound, Claim}
 use Rattle.ledger.proofs.Invariant.{Laid, outs, Invariant, opens}
@@ -36,19 +33,19 @@ use Rattle.ledger.proofs.Start.{accepted, laid_known}
 use Rattle.ledger.proofs.Always.{RunInvariant, by_address, nobody-same, run_keeps, begun_keeps}
 
 times_met_lem : (o : Option Entry) (k : ℕ) → k + outs o ≡ 1 → k ≡ times_met o
-times_met_lem none k e = omega arith
-times_met_lem (some o) k e = omega arith
+times_met_lem None k e = omega arith
+times_met_lem (Some o) k e = omega arith
 
 is-out : (o : Option Entry) → outs o ≡ 1 → is_out o ≡ true
-is-out none e = absurd (omega arith)
-is-out (some o) e = refl
+is-out None e = absurd (omega arith)
+is-out (Some o) e = refl
 
 -- what is not out is not out
-not-out : (o : Option Entry) → o ≡ none → is_out o ≡ true → ⊥
-not-out none e f = let z : ◌≡◌ {A = ℕ} 0 1 = cc in omega arith
-not-out (some o) e f = let z : ◌≡◌ {A = ℕ} 0 1 = cc in omega arith
+not-out : (o : Option Entry) → o ≡ None → is_out o ≡ true → ⊥
+not-out None e f = let z : ◌≡◌ {A = ℕ} 0 1 = cc in omega arith
+not-out (Some o) e f = let z : ◌≡◌ {A = ℕ} 0 1 = cc in omega arith
 
-not_entry : (o : Option Entry) (l : Entry) → o ≡ none → o ≡ some l → ⊥
+not_entry : (o : Option Entry) (l : Entry) → o ≡ None → o ≡ Some l → ⊥
 not_entry o l e f = let z : ◌≡◌ {A = ℕ} 0 1 = cc in omega arith
 
 -- what a request of lawful size is
@@ -78,11 +75,11 @@ module _ (g : Sheet) (laid : Laid g) where
     times i h = rw met-is (times_met_lem (out (buffer_address g i)) (occ i chain) (v.each i h))
 
     only_those_lem : (j : ℕ) → occ j (chain_of (image g laid v)).met ≢ 0
-        → (i : ℕ) × ((i < g.count) × ((own_of (image g laid v) i ≡ One j) × (out (buffer_address g i) ≡ none)))
+        → (i : ℕ) × ((i < g.count) × ((own_of (image g laid v) i ≡ Some j) × (out (buffer_address g i) ≡ None)))
     only_those_lem j ne = go (dec_lt j g.count) (rw met-is at ne)
       where
         go : Dec (j < g.count) → occ j chain ≢ 0
-            → (i : ℕ) × ((i < g.count) × ((own_of (image g laid v) i ≡ One j) × (out (buffer_address g i) ≡ none)))
+            → (i : ℕ) × ((i < g.count) × ((own_of (image g laid v) i ≡ Some j) × (out (buffer_address g i) ≡ None)))
         go (yes h) m = (j, (h, (own_is g laid v j h, none_out (out (buffer_address g j)) (omega (arith, v.each j h)))))
         go (no h) m = absurd (m (v.only j (omega arith)))
 
@@ -90,12 +87,12 @@ module _ (g : Sheet) (laid : Laid g) where
     Shown x o =
         (buffer : ℕ)
         × ((start : ℕ)
-        × ((len : ℕ) × ((shown_of g.format.profile a x ≡ shown.Client buffer start len) × (part a.heap (buffer + start) len ≡ o.client))))
+        × ((len : ℕ) × ((shown_of g.format.profile a x ≡ Ok (shown buffer start len)) × (part a.heap (buffer + start) len ≡ o.client))))
 
-    shows : (x : ℕ) (o : Entry) → out x ≡ some o → Shown x o
+    shows : (x : ℕ) (o : Entry) → out x ≡ Some o → Shown x o
     shows x o =
         by_address g laid out
-        (λ y. (o : Entry) → out y ≡ some o → Shown y o)
+        (λ y. (o : Entry) → out y ≡ Some o → Shown y o)
         (λ y e o f. absurd (not_entry (out y) o (v.stray y e) f))
         (λ j h e o f. absurd (not_entry (out (buffer_address g j)) o e f))
         (λ j h p e o f. (_, (_, (_, (show-out g laid v j h o f, client-is g laid v j h o f)))))
@@ -103,21 +100,21 @@ module _ (g : Sheet) (laid : Laid g) where
 
   -- a request of lawful size, by whether a buffer is left on the chain
   answer-none : {head : ℕ} {a : Areas} {out : ℕ → Option Entry} → Invariant g head a out [] → (q : Grant) (t : Stamp)
-      → lawful_request g.format.profile g.size q t ≡ true → (allocate_of g.format.profile a q t).answer ≡ answer.Refused NoRoom
+      → lawful_request g.format.profile g.size q t ≡ true → (allocate_of g.format.profile a q t).answer ≡ Err NoRoom
   answer-none v q t e =
       let k = lawful_request_lem g.format.profile g.size q t e in
-      ap (λ (r : Result Answer). r.answer) (allocate-none g laid v q t k.0 k.1)
+      ap (λ (r : Outcome (Result ℕ Refusal)). r.answer) (allocate-none g laid v q t k.0 k.1)
 
   answer-some : {head : ℕ} {a : Areas} {out : ℕ → Option Entry} {j : ℕ} {js : List ℕ} → Invariant g head a out (j ∷ js) → (q : Grant) (t : Stamp)
       → lawful_request g.format.profile g.size q t ≡ true
-      → (allocate_of g.format.profile a q t).answer ≡ answer.Value (buffer_address g j)
+      → (allocate_of g.format.profile a q t).answer ≡ Ok (buffer_address g j)
   answer-some v q t e =
       let k = lawful_request_lem g.format.profile g.size q t e in
-      ap (λ (r : Result Answer). r.answer) (allocate-some g laid v q t k.0 k.1)
+      ap (λ (r : Outcome (Result ℕ Refusal)). r.answer) (allocate-some g laid v q t k.0 k.1)
 
   full : {head : ℕ} {a : Areas} {out : ℕ → Option Entry} (chain : List ℕ) → Invariant g head a out chain → (q : Grant) (t : Stamp)
       → lawful_request g.format.profile g.size q t ≡ true
-      → ((allocate_of g.format.profile a q t).answer ≡ answer.Refused NoRoom) ↔ ((i : ℕ) → i < g.count → is_out (out (buffer_address g i)) ≡ true)
+      → ((allocate_of g.format.profile a q t).answer ≡ Err NoRoom) ↔ ((i : ℕ) → i < g.count → is_out (out (buffer_address g i)) ≡ true)
   full {out = out} [] v q t e = (
     λ _ i h. is-out (out (buffer_address g i)) (omega (arith, v.each i h, occ-none i)),
     λ _. answer-none v q t e,
@@ -129,8 +126,8 @@ module _ (g : Sheet) (laid : Laid g) where
   )
 
   accepts : {head : ℕ} {a : Areas} {out : ℕ → Option Entry} (chain : List ℕ) → Invariant g head a out chain → (q : Grant) (t : Stamp)
-      → lawful_request g.format.profile g.size q t ≡ true → ((allocate_of g.format.profile a q t).answer ≢ answer.Refused NoRoom)
-      → (i : ℕ) × ((i < g.count) × ((out (buffer_address g i) ≡ none) × ((allocate_of g.format.profile a q t).answer ≡ answer.Value (buffer_address g i))))
+      → lawful_request g.format.profile g.size q t ≡ true → ((allocate_of g.format.profile a q t).answer ≢ Err NoRoom)
+      → (i : ℕ) × ((i < g.count) × ((out (buffer_address g i) ≡ None) × ((allocate_of g.format.profile a q t).answer ≡ Ok (buffer_address g i))))
   accepts [] v q t e ne = absurd (ne (answer-none v q t e))
   accepts (j ∷ js) v q t e ne = (
     j,
@@ -160,7 +157,7 @@ module _ (g : Sheet) (laid : Laid g) where
         hides = λ i h e. show_in g laid v i h e;
         room = full f.chain v;
         accepts = accepts f.chain v;
-        nobody = λ call n. (ap (λ (r : Result Answer). r.answer) (nobody g laid v call n), nobody-same g laid call w n f);
+        nobody = λ call n. (ap (λ (r : Outcome (Result ℕ Refusal)). r.answer) (nobody g laid v call n), nobody-same g laid call w n f);
       }
 
 -- the claim of the ledger (B6 to B13)

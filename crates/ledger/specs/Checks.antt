@@ -1,6 +1,7 @@
 -- The worked cases P1 to P12 of the kernel's profile, and those of userland's, as one table each for each order: buffer size 24. The words are the same in
 -- both orders; their bytes, and so the first byte that differs in P9, are those of the order. Assumes nothing.
-use Rattle.std.specs.Prelude.{◌≡◌, Bool, true, false, List, [], ◌∷◌, ◌++◌, ℕ, ◌+◌, replicate, set}
+use Rattle.tags.specs.declared.refusal.Refusal.{Refusal}
+use Rattle.std.specs.Prelude.{◌≡◌, Bool, true, false, List, [], ◌∷◌, ◌++◌, ℕ, ◌+◌, replicate, set, Option, Some, None, Result, Ok, Err}
 use Rattle.std.specs.Int.Bits.{bit_xor}
 use Rattle.words.specs.declared.word.Order.{Order}
 use Rattle.words.specs.declared.word.Order.TheVariants.{HighFirst, LowFirst}
@@ -19,14 +20,10 @@ use Rattle.chunks.specs.declared.chunk.Grant.TheVariants as grant
 use Rattle.area.specs.Record.{stamp_of}
 use Rattle.sheet.specs.Fields.{sheet_length}
 use Rattle.sheet.specs.Areas.{Areas, areas}
-use Rattle.area.specs.declared.place.Place.{Place}
-use Rattle.area.specs.declared.place.Place.TheVariants as place
 use Rattle.verdicts.specs.Judge.{standing, owned_verdict}
 use Rattle.transactions.specs.Latest.{latest_row, first_best}
 use Rattle.tags.specs.Refusal.{refusal_number}
 use Rattle.layout.specs.Layout.{lay_out_of}
-use Rattle.tags.specs.declared.refusal.Answer.{Answer}
-use Rattle.tags.specs.declared.refusal.Answer.TheVariants as answer
 use Rattle.ledger.specs.Ledger.{Call, allocate, result_of, begun, run}
 
 -- a fresh image of three buffers of 24 bytes
@@ -34,18 +31,18 @@ unfoldable pub fresh_areas : Format → Areas
 fresh_areas f = (lay_out_of (areas (replicate sheet_length 0) (replicate 120 0) (replicate 288 0)) f 0x70039928 0x70a9add8 0x70ae31a0 24 3).areas
 
 -- the number of the refusal of an allocate of the whole buffer, 0 where it is accepted
-abbrev pub refused_as : Answer → ℕ
-refused_as (answer.Value a) = 0
-refused_as (answer.Refused why) = refusal_number why
+abbrev pub refused_as : Result ℕ Refusal → ℕ
+refused_as (Ok a) = 0
+refused_as (Err why) = refusal_number why
 
 -- a log of one row, which names the record at an address
 abbrev pub row_of : Format → ℕ → ℕ → List ℕ
 row_of f a stamp = word_bytes f a ++ word_bytes f stamp ++ word_bytes f 0 ++ word_bytes f 2
 
 -- whether it is a row
-abbrev pub is_row : Place → Bool
-is_row (place.At k) = true
-is_row place.Nowhere = false
+abbrev pub is_row : Option ℕ → Bool
+is_row (Some k) = true
+is_row None = false
 
 -- of a record with one stamp and a row that names it with another, the row is the latest
 unfoldable pub row_latest : Format → ℕ → ℕ → ℕ → Bool

@@ -1,6 +1,6 @@
 -- The calls, the ledger that is kept from their arguments and answers alone, a run of calls, and what holds after every run. Assumes nothing.
-use Rattle.std.specs.Prelude.{◌≡◌, ◌≢◌, ◌↔◌, Bool, true, false, ◌&&◌, not, cond, List, [], ◌∷◌, ℕ, suc, ◌+◌, ◌<◌, eqb}
-use Rattle.std.proofs.Math.Option.{Option, none, some}
+use Rattle.tags.specs.declared.refusal.Refusal.{Refusal}
+use Rattle.std.specs.Prelude.{◌≡◌, ◌≢◌, ◌↔◌, Bool, true, false, ◌&&◌, not, cond, List, [], ◌∷◌, ℕ, suc, ◌+◌, ◌<◌, eqb, Some, Result, Ok, Err, Option, None}
 use Rattle.std.proofs.lemmas.List.Edits.{sets}
 use Rattle.words.specs.Word.{part}
 use Rattle.words.specs.Sum.{total}
@@ -12,28 +12,23 @@ use Rattle.tags.specs.declared.format.Format.{Format}
 use Rattle.tags.specs.declared.format.Profile.{Profile}
 use Rattle.tags.specs.declared.ending.Ending.TheVariants.{End}
 use Rattle.tags.specs.declared.refusal.Refusal.TheVariants.{NoRoom, NotAllocated, NoThread}
-use Rattle.tags.specs.declared.refusal.Answer.{Answer}
-use Rattle.tags.specs.declared.refusal.Answer.TheVariants as answer
 use Rattle.tags.specs.declared.verdict.Verdict.{Verdict}
 use Rattle.tags.specs.declared.verdict.Verdict.TheVariants as verdict
 use Rattle.chunks.specs.Chunk.{grant_fill, grant_size, lawful_size}
 use Rattle.chunks.specs.declared.chunk.Grant.{Grant}
 use Rattle.chunks.specs.declared.chunk.Grant.TheVariants as grant
 use Rattle.area.specs.declared.record.Stamp.{Stamp}
-use Rattle.sheet.specs.Areas.{Areas, Result, Image, image_of, opening, is_nobody}
+use Rattle.sheet.specs.Areas.{Areas, Outcome, Image, image_of, opening, is_nobody}
 use Rattle.geometry.specs.Sheet.{laid_sheet, headed, buffer_address}
 use Rattle.geometry.specs.declared.sheet.Sheet.{Sheet}
-use Rattle.sheet.specs.declared.opening.Opened.TheVariants as opened
 use Rattle.chain.specs.Chain.{occ, chain_of}
 use Rattle.chain.specs.Pairing.{own_of}
 use Rattle.verdicts.specs.Judge.{verdict_of}
-use Rattle.chain.specs.declared.pairing.Own.TheVariants.{One}
 use Rattle.layout.specs.Layout.{lay_out_of}
 use Rattle.allocation.specs.Allocate.{allocate_of}
 use Rattle.free.specs.Free.{free_of}
 use Rattle.client.specs.Store.{store_of}
-use Rattle.client.specs.Show.{shown_of}
-use Rattle.client.specs.declared.show.Shown.TheVariants as shown
+use Rattle.client.specs.Show.{shown_of, shown}
 
 -- ---- the calls
 
@@ -44,7 +39,7 @@ pub data Call : Type 0 where
   store : (address offset : ℕ) (bytes : List ℕ) → Call
 
 -- K and E, U1: each call refuses, answers and writes as its own definition says, under a profile
-abbrev pub result_of : Profile → Call → Areas → Result Answer
+abbrev pub result_of : Profile → Call → Areas → Outcome (Result ℕ Refusal)
 result_of p (allocate q s) a = allocate_of p a q s
 result_of p (free address q s) a = free_of p a address q s
 result_of p (store address offset bytes) a = store_of p a address offset bytes
@@ -82,30 +77,30 @@ fresh f size q = record { grant = q; client = repeated (grant_size size q) (word
 
 -- B3 (bytes over the client bytes, from the offset on)
 abbrev pub overwritten : ℕ → List ℕ → Option Entry → Option Entry
-overwritten offset bytes none = none
-overwritten offset bytes (some o) = some (record { grant = o.grant; client = sets o.client offset bytes })
+overwritten offset bytes None = None
+overwritten offset bytes (Some o) = Some (record { grant = o.grant; client = sets o.client offset bytes })
 
 -- B2 (an accepted allocate), B5 (a refused call)
-abbrev pub after_allocate : Format → ℕ → Grant → Answer → Ledger → Ledger
-after_allocate f size q (answer.Value a) l = record { out = put a (some (fresh f size q)) l.out; allocations = suc l.allocations; frees = l.frees }
-after_allocate f size q (answer.Refused why) l = l
+abbrev pub after_allocate : Format → ℕ → Grant → Result ℕ Refusal → Ledger → Ledger
+after_allocate f size q (Ok a) l = record { out = put a (Some (fresh f size q)) l.out; allocations = suc l.allocations; frees = l.frees }
+after_allocate f size q (Err why) l = l
 
 -- B4 (an accepted free), B5
-abbrev pub after_free : ℕ → Answer → Ledger → Ledger
-after_free address (answer.Value v) l = record { out = put address none l.out; allocations = l.allocations; frees = suc l.frees }
-after_free address (answer.Refused why) l = l
+abbrev pub after_free : ℕ → Result ℕ Refusal → Ledger → Ledger
+after_free address (Ok v) l = record { out = put address None l.out; allocations = l.allocations; frees = suc l.frees }
+after_free address (Err why) l = l
 
 -- B3 (an accepted store), B5
-abbrev pub after_store : ℕ → ℕ → List ℕ → Answer → Ledger → Ledger
-after_store address offset bytes (answer.Value v) l = record {
+abbrev pub after_store : ℕ → ℕ → List ℕ → Result ℕ Refusal → Ledger → Ledger
+after_store address offset bytes (Ok v) l = record {
   out = put address (overwritten offset bytes (l.out address)) l.out;
   allocations = l.allocations;
   frees = l.frees;
 }
-after_store address offset bytes (answer.Refused why) l = l
+after_store address offset bytes (Err why) l = l
 
 -- B2 to B5, from what a call is given and what it answers alone; the format and the size of the buffers are arguments of lay out
-abbrev pub after_call : Format → ℕ → Call → Answer → Ledger → Ledger
+abbrev pub after_call : Format → ℕ → Call → Result ℕ Refusal → Ledger → Ledger
 after_call f size (allocate q s) answer l = after_allocate f size q answer l
 after_call f size (free address q s) answer l = after_free address answer l
 after_call f size (store address offset bytes) answer l = after_store address offset bytes answer l
@@ -119,7 +114,7 @@ pub record RunState : Type 0 where
 
 -- B1 (an accepted lay out begins it)
 abbrev pub begun : Areas → RunState
-begun a = record { areas = a; ledger = record { out = λ x. none; allocations = 0; frees = 0 } }
+begun a = record { areas = a; ledger = record { out = λ x. None; allocations = 0; frees = 0 } }
 
 -- one call: it gets the areas as they are and the profile that they were laid out under, and its answer goes into the ledger
 abbrev pub step : Format → ℕ → Call → RunState → RunState
@@ -142,8 +137,8 @@ as_granted (grant.Sized s) = verdict.Allocated s
 
 -- B8 (out: found as granted; not out: found free)
 abbrev pub as_entered : Option Entry → Verdict
-as_entered none = verdict.Free
-as_entered (some o) = as_granted o.grant
+as_entered None = verdict.Free
+as_entered (Some o) = as_granted o.grant
 
 -- 1 for a buffer that is found allocated, else 0
 abbrev pub allocated_one : Verdict → ℕ
@@ -155,13 +150,13 @@ found_allocated v n = total (λ i. allocated_one (v i)) n
 
 -- B10 (how often the chain must meet the record of a buffer): once if it is not out, and not at all if it is
 abbrev pub times_met : Option Entry → ℕ
-times_met none = 1
-times_met (some o) = 0
+times_met None = 1
+times_met (Some o) = 0
 
 -- B2, B4 (whether it is out)
 abbrev pub is_out : Option Entry → Bool
-is_out none = false
-is_out (some o) = true
+is_out None = false
+is_out (Some o) = true
 
 -- the image between two calls, once the sheet's numbers are known
 abbrev pub image_at : RunState → Sheet → Image
@@ -172,7 +167,7 @@ pub record Sound (laid : Sheet) (w : RunState) : Type 0 where
   -- B6: the image opens under the profile that it was laid out under, and its sheet is the one laid out but for the head
   pub sheet : Sheet
   pub only_head : sheet ≡ headed laid sheet.head
-  pub opens : opening laid.format.profile w.areas ≡ opened.Sheet sheet
+  pub opens : opening laid.format.profile w.areas ≡ Ok sheet
   -- B7: no buffer has a fault
   pub no_fault : (i : ℕ) → i < laid.count → is_fault (verdict_number (verdict_of (image_at w sheet) i)) ≡ false
   -- B8: the buffers found allocated are those that are out, each as last granted, and all others are found free
@@ -186,30 +181,30 @@ pub record Sound (laid : Sheet) (w : RunState) : Type 0 where
   pub ends : (chain_of (image_at w sheet)).ending ≡ End
   pub own_met : (i : ℕ) → i < laid.count
       → (j : ℕ)
-      × ((own_of (image_at w sheet) i ≡ One j) × (occ j (chain_of (image_at w sheet)).met ≡ times_met (w.ledger.out (buffer_address laid i))))
+      × ((own_of (image_at w sheet) i ≡ Some j) × (occ j (chain_of (image_at w sheet)).met ≡ times_met (w.ledger.out (buffer_address laid i))))
   pub only_those : (j : ℕ) → occ j (chain_of (image_at w sheet)).met ≢ 0
-      → (i : ℕ) × ((i < laid.count) × ((own_of (image_at w sheet) i ≡ One j) × (w.ledger.out (buffer_address laid i) ≡ none)))
+      → (i : ℕ) × ((i < laid.count) × ((own_of (image_at w sheet) i ≡ Some j) × (w.ledger.out (buffer_address laid i) ≡ None)))
   -- B11: show answers the client bytes of a buffer that is out, and refuses one that is not
-  pub shows : (a : ℕ) (o : Entry) → w.ledger.out a ≡ some o
+  pub shows : (a : ℕ) (o : Entry) → w.ledger.out a ≡ Some o
       → (buffer : ℕ)
       × ((start : ℕ)
       × ((len : ℕ)
-      × ((shown_of laid.format.profile w.areas a ≡ shown.Client buffer start len) × (part w.areas.heap (buffer + start) len ≡ o.client))))
-  pub hides : (i : ℕ) → i < laid.count → w.ledger.out (buffer_address laid i) ≡ none
-      → shown_of laid.format.profile w.areas (buffer_address laid i) ≡ shown.Refused NotAllocated
+      × ((shown_of laid.format.profile w.areas a ≡ Ok (shown buffer start len)) × (part w.areas.heap (buffer + start) len ≡ o.client))))
+  pub hides : (i : ℕ) → i < laid.count → w.ledger.out (buffer_address laid i) ≡ None
+      → shown_of laid.format.profile w.areas (buffer_address laid i) ≡ Err NotAllocated
   -- B12: a request of lawful size is refused for want of room, X5, exactly when all buffers are out; else it is accepted, with the address of a buffer
   -- that is not out
   pub room : (q : Grant) (s : Stamp) → lawful_request laid.format.profile laid.size q s ≡ true
-      → ((allocate_of laid.format.profile w.areas q s).answer ≡ answer.Refused NoRoom)
+      → ((allocate_of laid.format.profile w.areas q s).answer ≡ Err NoRoom)
       ↔ ((i : ℕ) → i < laid.count → is_out (w.ledger.out (buffer_address laid i)) ≡ true)
   pub accepts : (q : Grant) (s : Stamp) → lawful_request laid.format.profile laid.size q s ≡ true
-      → ((allocate_of laid.format.profile w.areas q s).answer ≢ answer.Refused NoRoom)
+      → ((allocate_of laid.format.profile w.areas q s).answer ≢ Err NoRoom)
       → (i : ℕ)
       × ((i < laid.count)
-      × ((w.ledger.out (buffer_address laid i) ≡ none) × ((allocate_of laid.format.profile w.areas q s).answer ≡ answer.Value (buffer_address laid i))))
+      × ((w.ledger.out (buffer_address laid i) ≡ None) × ((allocate_of laid.format.profile w.areas q s).answer ≡ Ok (buffer_address laid i))))
   -- B13: a call of nobody is refused with X13, and changes neither the areas nor the ledger
   pub nobody : (call : Call) → by_nobody call ≡ true
-      → ((result_of laid.format.profile call w.areas).answer ≡ answer.Refused NoThread) × (step laid.format laid.size call w ≡ w)
+      → ((result_of laid.format.profile call w.areas).answer ≡ Err NoThread) × (step laid.format laid.size call w ≡ w)
 
 -- B6 to B13, one claim about the whole list: after an accepted lay out, under either profile and in either order, whose cache address is a word, and any calls
 abbrev pub Claim : Type 0

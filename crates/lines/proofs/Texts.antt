@@ -1,4 +1,5 @@
 -- The laws of the report's text: of pieces one after the other, of decimals, of the lines, and of all or nothing. Assumes nothing.
+use Rattle.std.specs.Prelude.{Option, Some, None}
 use mathlib.Core.Path.{◌≡◌, refl, sym, ap, subst, ◌∙◌}
 use mathlib.Core.List.{List, [], ◌∷◌, ◌++◌, append_assoc}
 use Prim.Native.String.{String}
@@ -20,11 +21,11 @@ use Rattle.tags.specs.declared.verdict.Verdict.TheVariants.{BadFill, BadRedzone,
 use Rattle.tags.proofs.Verdicts.{code_fault}
 use Rattle.lines.specs.Text.{ascii, decimal_with, decimal_of, field_of, header_of, has_offset, fault_line_of, line_of, lines_of, chain_line_of}
 use Rattle.lines.specs.Text.{fault_of, faults_in, faults_of, text_of, Wrote, writing, most_buffers, line_most, chain_most, faults_most, longest}
-use Rattle.lines.specs.declared.text.Written.{Written}
+use Rattle.lines.specs.Writer.{Put}
+use Rattle.lines.specs.declared.text.Writer.{Writer}
 use Rattle.tags.specs.Filling.{Filling, filling}
 use Rattle.words.proofs.Tests.{by_test}
 use lib.Dec.{leb, ltb, eqb, lit≤}
-use Rattle.lines.specs.declared.text.Written.TheVariants.{Length, Short}
 
 -- ---- pieces
 
@@ -111,15 +112,15 @@ fault_line_short i number value h k v =
 pub line_short : (i number value : ℕ) → i < most_buffers → number < 100 → value < 2 ^ 32 → length (line_of i number value) ≤ line_most
 unfolding line_of
 line_short i number value h k v =
-    by_test Short (eqb number 0) (λ _. omega (arith, (field i 4 " free\n" (omega arith)).most))
-    (λ _. by_test Short (eqb number 1) (λ _. omega (arith, (field i 4 " whole\n" (omega arith)).most))
-    (λ _. by_test Short (eqb number 2)
+    by_test None (eqb number 0) (λ _. omega (arith, (field i 4 " free\n" (omega arith)).most))
+    (λ _. by_test None (eqb number 1) (λ _. omega (arith, (field i 4 " whole\n" (omega arith)).most))
+    (λ _. by_test None (eqb number 2)
     (λ _. (both (field i 4 " allocated " (omega arith)) (field value 9 "\n" (omega arith))).most)
-    (λ _. by_test Short (eqb number 3) (λ _. omega (arith, (field i 4 " cached\n" (omega arith)).most))
+    (λ _. by_test None (eqb number 3) (λ _. omega (arith, (field i 4 " cached\n" (omega arith)).most))
     (λ _. omega (arith, fault_line_short i number value h k v)))))
   where
-    Short : List ℕ → Type 0
-    Short x = length x ≤ line_most
+    None : List ℕ → Type 0
+    None x = length x ≤ line_most
 
 pub chain_line_short : (met : ℕ) (e : Ending) → met ≤ most_buffers → ending_value e < most_buffers → length (chain_line_of met e) ≤ chain_most
 unfolding chain_line_of
@@ -191,29 +192,42 @@ nothing_put [] t o p w = refl
 nothing_put (x ∷ m) t o p w = let z : suc (length m) ≡ 0 = w.long in absurd (omega arith)
 
 -- where there is room for all of a text, it is written
-pub room_for_all : (t o x : List ℕ) (r : ℕ) → length t ≤ length o → Wrote o 0 t x r → filling (Length r) x ≡ writing t o
+pub room_for_all : (t o x : List ℕ) (r : ℕ) → length t ≤ length o → Wrote o 0 t x r → filling (Some r) x ≡ writing t o
 room_for_all t o x r l v = simp (le-leb (length t) (length o) l) (rw (v.ends ∙ zero-add (length t), v.filled (omega (arith, v.ends))))
 
 -- the two ends of a text, of which the first run only counted
 module _ (t o m : List ℕ) (need : ℕ) (w : Wrote [] 0 t m need) where
-  pub too_short : length (m ++ o) < need → filling Short (m ++ o) ≡ writing t o
+  pub too_short : length (m ++ o) < need → filling None (m ++ o) ≡ writing t o
   too_short h =
       let k = nothing_put m t o need w in
       let l : length o < length t = omega (arith, ap length k, w.ends) in
-      simp (lt-leb (length t) (length o) l) (ap (filling Short) k)
+      simp (lt-leb (length t) (length o) l) (ap (filling None) k)
 
-  pub long_enough : need ≤ length (m ++ o) → {x : List ℕ} {r : ℕ} → Wrote (m ++ o) 0 t x r → filling (Length r) x ≡ writing t o
+  pub long_enough : need ≤ length (m ++ o) → {x : List ℕ} {r : ℕ} → Wrote (m ++ o) 0 t x r → filling (Some r) x ≡ writing t o
   long_enough h {x} {r} v =
       let k = nothing_put m t o need w in
       room_for_all t o x r (omega (arith, ap length k, w.ends)) (subst (λ (y : List ℕ). Wrote y 0 t x r) k v)
 
 -- a text that was written fits the output, and its length is told
-pub written_known : (t o : List ℕ) (s : Written) (x : List ℕ) (k : ℕ) → filling s x ≡ writing t o → s ≡ Length k → (k ≡ length t) × (k ≤ length o)
+pub written_known : (t o : List ℕ) (s : Option ℕ) (x : List ℕ) (k : ℕ) → filling s x ≡ writing t o → s ≡ Some k → (k ≡ length t) × (k ≤ length o)
 written_known t o s x k e f =
-    by_test (λ (y : Filling Written ℕ). filling s x ≡ y → (k ≡ length t) × (k ≤ length o)) (leb (length t) (length o))
-    (λ q g. let h = ap (λ (y : Filling Written ℕ). y.answer) g in let z : length t ≡ k = cc in (sym z, subst (λ (n : ℕ). n ≤ length o) z (leb-true _ _ q)))
-    (λ q g. let h = ap (λ (y : Filling Written ℕ). y.answer) g in absurd (let z : ◌≡◌ {A = ℕ} 0 1 = cc in omega arith))
+    by_test (λ (y : Filling (Option ℕ) ℕ). filling s x ≡ y → (k ≡ length t) × (k ≤ length o)) (leb (length t) (length o))
+    (λ q g. let h = ap (λ (y : Filling (Option ℕ) ℕ). y.answer) g in let z : length t ≡ k = cc in (sym z, subst (λ (n : ℕ). n ≤ length o) z (leb-true _ _ q)))
+    (λ q g. let h = ap (λ (y : Filling (Option ℕ) ℕ). y.answer) g in absurd (let z : ◌≡◌ {A = ℕ} 0 1 = cc in omega arith))
     e
 
-pub written_fits : (t o : List ℕ) (s : Written) (x : List ℕ) (k : ℕ) → filling s x ≡ writing t o → s ≡ Length k → k ≤ length o
+pub written_fits : (t o : List ℕ) (s : Option ℕ) (x : List ℕ) (k : ℕ) → filling s x ≡ writing t o → s ≡ Some k → k ≤ length o
 written_fits t o s x k e f = (written_known t o s x k e f).1
+
+-- ---- by a writer
+
+pub put_none : (w : Writer) → Put w w []
+put_none w = record { wrote = wrote_none w.output.now w.at; same = refl }
+
+-- one piece, and then another
+pub put_then : {a b c : Writer} {x y : List ℕ} → Put a b x → Put b c y → Put a c (x ++ y)
+put_then p q = record { wrote = then p.wrote q.wrote; same = q.same ∙ p.same }
+
+-- one piece, and then two that were put as one
+pub put_both : {a b c : Writer} (x y z : List ℕ) → Put a b x → Put b c (y ++ z) → Put a c (x ++ y ++ z)
+put_both x y z p q = record { wrote = then_both x y z p.wrote q.wrote; same = q.same ∙ p.same }

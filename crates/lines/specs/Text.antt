@@ -1,5 +1,5 @@
 -- The report's text as a list of bytes, and what becomes of an output. Assumes nothing.
-use Rattle.std.specs.Prelude.{◌≡◌, Bool, ◌||◌, cond, List, [], ◌∷◌, ◌++◌, ℕ, zero, suc, ◌+◌, ◌*◌, ◌/◌, ◌%◌, ◌≤◌, eqb, ltb, length}
+use Rattle.std.specs.Prelude.{◌≡◌, Bool, ◌||◌, cond, List, [], ◌∷◌, ◌++◌, ℕ, zero, suc, ◌+◌, ◌*◌, ◌/◌, ◌%◌, ◌≤◌, eqb, ltb, length, Option, Some, None}
 use Prim.Native.Char.{code}
 use Prim.Native.String.{String, [] as none, ◌∷◌ as ◌then◌}
 use Rattle.std.proofs.lemmas.List.Edits.{sets}
@@ -9,8 +9,6 @@ use Rattle.words.specs.Sum.{total}
 use Rattle.tags.specs.Verdict.{is_fault}
 use Rattle.tags.specs.declared.ending.Ending.{Ending}
 use Rattle.tags.specs.declared.ending.Ending.TheVariants.{End, Broken, Again}
-use Rattle.lines.specs.declared.text.Written.{Written}
-use Rattle.lines.specs.declared.text.Written.TheVariants.{Length, Short}
 
 -- ---- pieces
 
@@ -125,5 +123,5 @@ pub record Wrote (entry : List ℕ) (at : ℕ) (text exit : List ℕ) (next : �
   pub ends : next ≡ at + length text
 
 -- G8, X11 (all or nothing): the length of the text where there is room for it, at the output's start; output past it stays
-abbrev pub writing : List ℕ → List ℕ → Filling Written ℕ
-writing text output = if_room (length text) output (filling (Length (length text)) (sets output 0 text)) Short
+abbrev pub writing : List ℕ → List ℕ → Filling (Option ℕ) ℕ
+writing text output = if_room (length text) output (filling (Some (length text)) (sets output 0 text)) None

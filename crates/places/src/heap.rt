@@ -18,8 +18,7 @@ pub fn chunk<'a>(heap: &'a [u8], g: Sheet, i: usize) -> &'a [u8]
     ensures { result.now ≡ chunk_in g heap.now i }
 {
     let at = g.chunk_place(i);
-    let end = at + g.chunk;
-    &heap[at..end]
+    &heap[at..at + g.chunk]
 }
 
 // Writes the chunk of buffer i as a free one, whose record is at an address.
@@ -30,10 +29,8 @@ pub fn write_free(heap: &mut [u8], g: Sheet, i: usize, record_at: u32)
     ensures { heap.new
         ≡ sets heap.old (chunk_place g i) (free_chunk g.format g.size record_at) }
 {
-    let f = g.format;
     let at = g.chunk_place(i);
-    let end = at + g.chunk;
-    chunk::write_free(f, &mut heap[at..end], record_at);
+    chunk::write_free(g.format, &mut heap[at..at + g.chunk], record_at);
 }
 
 // Writes the chunk of buffer i as a granted one, whose record is at an address.
@@ -45,8 +42,6 @@ pub fn write_granted(heap: &mut [u8], g: Sheet, i: usize, record_at: u32, grant:
     ensures { heap.new
         ≡ sets heap.old (chunk_place g i) (granted_chunk g.format g.size record_at grant) }
 {
-    let f = g.format;
     let at = g.chunk_place(i);
-    let end = at + g.chunk;
-    chunk::write_granted(f, &mut heap[at..end], record_at, grant);
+    chunk::write_granted(g.format, &mut heap[at..at + g.chunk], record_at, grant);
 }

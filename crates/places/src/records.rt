@@ -16,8 +16,7 @@ pub fn next(records: &[u8], g: Sheet, j: usize) -> u32
     requires j_lt_count { j < g.count }
     ensures { result ≡ next_word g.format records.now j }
 {
-    let f = g.format;
-    record::read(f, records, j, record::NEXT)
+    record::read(g.format, records, j, record::NEXT)
 }
 
 // The address of the buffer that record j names.
@@ -27,8 +26,7 @@ pub fn buffer(records: &[u8], g: Sheet, j: usize) -> u32
     requires j_lt_count { j < g.count }
     ensures { result ≡ address_word g.format records.now j }
 {
-    let f = g.format;
-    record::read(f, records, j, record::BUFFER)
+    record::read(g.format, records, j, record::BUFFER)
 }
 
 // The timestamp of record j.
@@ -38,8 +36,7 @@ pub fn stamp(records: &[u8], g: Sheet, j: usize) -> u64
     requires j_lt_count { j < g.count }
     ensures { result ≡ stamp_number g.format records.now j }
 {
-    let f = g.format;
-    record::read_stamp(f, records, j)
+    record::read_stamp(g.format, records, j)
 }
 
 // Writes the next word of record j.
@@ -49,8 +46,7 @@ pub fn set_next(records: &mut [u8], g: Sheet, j: usize, next: u32)
     requires j_lt_count { j < g.count }
     ensures { records.new ≡ with_next g.format records.old j next }
 {
-    let f = g.format;
-    record::set_next(f, records, j, next);
+    record::set_next(g.format, records, j, next);
 }
 
 // Writes the stamp and the thread of record j.
@@ -60,8 +56,7 @@ pub fn set_stamp(records: &mut [u8], g: Sheet, j: usize, s: Stamp)
     requires j_lt_count { j < g.count }
     ensures { records.new ≡ stamped g.format records.old j s }
 {
-    let f = g.format;
-    record::set_stamp(f, records, j, s);
+    record::set_stamp(g.format, records, j, s);
 }
 
 // Writes record j whole: its next word, the address of its buffer and the cache, and 0 elsewhere.
@@ -72,6 +67,5 @@ pub fn write(records: &mut [u8], g: Sheet, j: usize, next: u32, buffer: u32)
     ensures { records.new
         ≡ sets records.old (record_place g j) (record_bytes g.format next buffer g.cache) }
 {
-    let f = g.format;
-    record::write(f, records, j, next, buffer, g.cache);
+    record::write(g.format, records, j, next, buffer, g.cache);
 }

@@ -2,7 +2,7 @@
 use geometry::sheet::Sheet;
 
 // Buffer `buffer` of a sheet and record `own`, the own record of that buffer.
-#[derive(Clone, Copy)]
+#[derive(Clone, Copy, Debug, PartialEq, Eq)]
 pub struct Spot {
     pub sheet: Sheet,
     pub buffer: usize,

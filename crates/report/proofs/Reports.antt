@@ -1,30 +1,31 @@
 -- How long the text of an image can be, and that a text that is answered is short and fits the output. Assumes nothing.
-use mathlib.Core.Path.{◌≡◌, refl}
+use Rattle.std.specs.Prelude.{Option, Some, None, Result, Ok, Err}
+use Rattle.std.specs.Option.{ok_or}
+use mathlib.Core.Path.{◌≡◌, refl, sym, ap, ◌∙◌}
 use mathlib.Core.List.{List, ◌++◌}
 use Prim.Native.Nat.{ℕ, ◌≤◌}
 use native.Mathlib.Omega.{arith}
-use lib.ListN.{length}
-use Rattle.tags.specs.Filling.{Filling, filling, unfilled}
+use lib.ListN.{length, take, replicate}
+use lib.Seq.{length-take-le}
+use Rattle.tags.specs.Filling.{Filling, filling, unfilled, told}
+use Rattle.tags.specs.declared.refusal.Refusal.TheVariants.{ShortOutput}
 use Rattle.tags.specs.declared.format.Profile.{Profile}
 use Rattle.tags.specs.declared.ending.Ending.{Ending}
-use Rattle.tags.specs.declared.refusal.Answer.{Answer}
-use Rattle.tags.specs.declared.refusal.Answer.TheVariants.{Value, Refused}
 use Rattle.geometry.specs.Limits.{SizesOf}
 use Rattle.tags.specs.declared.refusal.Refusal.{Refusal}
 use Rattle.sheet.specs.Areas.{Areas, Image, image_with, opening_with_log, by_magazines}
+use Rattle.sheet.specs.Lent.{seen, sheet_open}
+use Rattle.sheet.specs.declared.lent.Image.{Image as Lent}
+use Rattle.sheet.specs.declared.open_image.OpenImage.{OpenImage}
 use Rattle.sheet.proofs.Opens.{logged_known, by-opened, by-magazines}
-use Rattle.geometry.specs.declared.sheet.Sheet.{Sheet}
-use Rattle.sheet.specs.declared.opening.Opened.TheVariants as opened
 use Rattle.chain.specs.Chain.{chain_of}
 use Rattle.chain.specs.Marks.{marked_of}
 use Rattle.chain.specs.declared.walk.Walked.{Walked}
-use Rattle.chain.specs.declared.marks.Marked.TheVariants as marked
 use Rattle.chain.proofs.Markings.{marked_passes, marked_refuses}
+use Rattle.verdicts.specs.Marked.{image_with_list}
 use Rattle.verdicts.specs.Judge.{verdict_of}
 use Rattle.chain.proofs.Chains.{chain_short, ending_below}
 use Rattle.lines.specs.Text.{header_of, lines_of, chain_line_of, faults_in, faults_of, longest, writing}
-use Rattle.lines.specs.declared.text.Written.{Written}
-use Rattle.lines.specs.declared.text.Written.TheVariants as written
 use Rattle.lines.proofs.Texts.{verdict_small, text_is, text_short, written_known}
 use Rattle.report.specs.Answer.{number_of, value_of, report_text, reported_by, reporting, report_image, report_of}
 use Rattle.report.proofs.Values.{value_small}
@@ -50,37 +51,57 @@ report_is m i faults met ending e f k q = rw (k, q) (text_is (number_of m) (valu
 
 -- the report of an open image, by what marking answers
 module _ (m : Image) (output : List ℕ) where
-  pub image_reported : (w : Walked) → marked_of m.sheet m.records m.magazines ≡ marked.Chain w
+  pub image_reported : (w : Walked) → marked_of m.sheet m.records m.magazines ≡ Ok w
       → report_image m output ≡ reporting (report_text m) output
   unfolding report_image
   image_reported w e =
-      marked_passes m.sheet m.records m.magazines (reporting (report_text m) output) (λ (why : Refusal). unfilled (Refused why) output) w e
+      marked_passes m.sheet m.records m.magazines (reporting (report_text m) output) (λ (why : Refusal). unfilled (Err why) output) w e
 
-  pub image_refused : (why : Refusal) → marked_of m.sheet m.records m.magazines ≡ marked.Refused why
-      → report_image m output ≡ unfilled (Refused why) output
+  pub image_refused : (why : Refusal) → marked_of m.sheet m.records m.magazines ≡ Err why
+      → report_image m output ≡ unfilled (Err why) output
   unfolding report_image
   image_refused why e =
-      marked_refuses m.sheet m.records m.magazines (reporting (report_text m) output) (λ (why : Refusal). unfilled (Refused why) output) why e
+      marked_refuses m.sheet m.records m.magazines (reporting (report_text m) output) (λ (why : Refusal). unfilled (Err why) output) why e
 
--- and that of areas that open
-pub report_opened : (p : Profile) (a : Areas) (l : List ℕ) (n : ℕ) (output : List ℕ) (g : Sheet) → opening_with_log p a n ≡ opened.Sheet g
-    → report_of p a l n output ≡ report_image (image_with a l g) output
-unfolding report_of report_image
-report_opened p a l n output g e = rw e
+  -- where its text was written, or had no room
+  pub image_told : (w : Walked) → marked_of m.sheet m.records m.magazines ≡ Ok w → {r : Option ℕ} {x : List ℕ} {a : Result ℕ Refusal}
+      → filling r x ≡ writing (report_text m) output → a ≡ ok_or r ShortOutput → report_image m output ≡ filling a x
+  image_told w e {r} {x} f g = image_reported w e ∙ ap (told reported_by) (sym f) ∙ ap (λ y. filling y x) (reported r ∙ sym g)
+    where
+      reported : (r : Option ℕ) → reported_by r ≡ ok_or r ShortOutput
+      reported (Some n) = refl
+      reported None = refl
+
+-- ---- what a call answers, by what its image opens as
+
+module _ (p : Profile) (i : Lent) (r : Result OpenImage Refusal) (l : List ℕ) (n : ℕ) (output : List ℕ)
+    (is : sheet_open r ≡ opening_with_log p (seen i) n) where
+  pub report_shut : (why : Refusal) → r ≡ Err why → report_of p (seen i) l n output ≡ filling (Err why) output
+  unfolding report_of
+  report_shut why e = rw (← is, e)
+
+  pub report_opened : (o : OpenImage) → r ≡ Ok o → (o.heap ≡ i.heap) × (o.records ≡ i.records)
+      → report_of p (seen i) l n output ≡ report_image (image_with_list o l) output
+  unfolding report_of report_image
+  report_opened o e a = rw (← is, e, a.0, a.1)
+
+-- the first n bytes of the marks' area
+pub part_long : (n : ℕ) → n ≤ 512 → length {A = ℕ} (take n (replicate 512 0)) ≡ n
+part_long n h = length-take-le n (replicate 512 0) h
 
 -- a text that was written is told by its length
-reporting_known : (text output : List ℕ) (k : ℕ) → (reporting text output).answer ≡ Value k → (k ≡ length text) × (k ≤ length output)
+reporting_known : (text output : List ℕ) (k : ℕ) → (reporting text output).answer ≡ Ok k → (k ≡ length text) × (k ≤ length output)
 reporting_known text output k = go (writing text output).answer (writing text output).rows refl
   where
-    go : (w : Written) (x : List ℕ) → filling w x ≡ writing text output → reported_by w ≡ Value k → (k ≡ length text) × (k ≤ length output)
-    go (written.Length n) x e f = let z : written.Length n ≡ written.Length k = cc in written_known text output (written.Length n) x k e z
-    go written.Short x e f = absurd (let z : ◌≡◌ {A = ℕ} 0 1 = cc in omega arith)
+    go : (w : Option ℕ) (x : List ℕ) → filling w x ≡ writing text output → reported_by w ≡ Ok k → (k ≡ length text) × (k ≤ length output)
+    go (Some n) x e f = let z : Some n ≡ Some k = cc in written_known text output (Some n) x k e z
+    go None x e f = absurd (let z : ◌≡◌ {A = ℕ} 0 1 = cc in omega arith)
 
 -- a refused report has no length
-no_length : (why : Refusal) (k : ℕ) → Refused why ≡ Value k → ⊥
+no_length : (why : Refusal) (k : ℕ) → Err why ≡ Ok k → ⊥
 no_length why k q = let z : ◌≡◌ {A = ℕ} 0 1 = cc in omega arith
 
-report_known : (p : Profile) (a : Areas) (l : List ℕ) (n : ℕ) (output : List ℕ) (k : ℕ) → (report_of p a l n output).answer ≡ Value k
+report_known : (p : Profile) (a : Areas) (l : List ℕ) (n : ℕ) (output : List ℕ) (k : ℕ) → (report_of p a l n output).answer ≡ Ok k
     → (k ≤ 65535) × (k ≤ length output)
 unfolding report_of
 report_known p a l n output k =
@@ -93,16 +114,16 @@ report_known p a l n output k =
     (λ why q. absurd (no_length why k q)))
     (λ why q. absurd (no_length why k q))
   where
-    P : Filling Answer ℕ → Type 0
-    P x = x.answer ≡ Value k → (k ≤ 65535) × (k ≤ length output)
+    P : Filling (Result ℕ Refusal) ℕ → Type 0
+    P x = x.answer ≡ Ok k → (k ≤ 65535) × (k ≤ length output)
 
-    shut : Refusal → Filling Answer ℕ
-    shut why = unfilled (Refused why) output
+    shut : Refusal → Filling (Result ℕ Refusal) ℕ
+    shut why = unfilled (Err why) output
 
 -- G8, S5 (at most 512 buffers): the length that is answered is small
-pub report_short : (p : Profile) (a : Areas) (l : List ℕ) (n : ℕ) (output : List ℕ) (k : ℕ) → (report_of p a l n output).answer ≡ Value k → k ≤ 65535
+pub report_short : (p : Profile) (a : Areas) (l : List ℕ) (n : ℕ) (output : List ℕ) (k : ℕ) → (report_of p a l n output).answer ≡ Ok k → k ≤ 65535
 report_short p a l n output k q = (report_known p a l n output k q).0
 
 -- and all of the text stands in the output
-pub report_fits : (p : Profile) (a : Areas) (l : List ℕ) (n : ℕ) (output : List ℕ) (k : ℕ) → (report_of p a l n output).answer ≡ Value k → k ≤ length output
+pub report_fits : (p : Profile) (a : Areas) (l : List ℕ) (n : ℕ) (output : List ℕ) (k : ℕ) → (report_of p a l n output).answer ≡ Ok k → k ≤ length output
 report_fits p a l n output k q = (report_known p a l n output k q).1

@@ -1,4 +1,6 @@
 -- The value of a verdict, a size or an offset, is small: no verdict speaks of a byte behind the redzone. Assumes nothing.
+use Rattle.std.specs.Prelude.{Option, Some, None, Result, Ok, Err}
+use Rattle.tags.specs.declared.size_code.BadCode.{BadCode}
 use mathlib.Core.Path.{◌≡◌, refl}
 use mathlib.Core.Bool.{Bool, ◌&&◌, not}
 use mathlib.Core.List.{List}
@@ -8,8 +10,6 @@ use lib.Dec.{eqb}
 use lib.ListN.{length, get_or, drop, length-take}
 use Rattle.words.specs.Word.{part}
 use Rattle.runs.specs.Run.{repeated, difference}
-use Rattle.runs.specs.declared.run.Difference.{Difference}
-use Rattle.runs.specs.declared.run.Difference.TheVariants.{At, Nowhere}
 use Rattle.runs.proofs.Runs.{differs_within}
 use Rattle.words.proofs.Tests.{by_test}
 use Rattle.tags.specs.Format.{word_bytes}
@@ -17,8 +17,6 @@ use Rattle.tags.specs.SizeCode.{decoded_of}
 use Rattle.tags.specs.Tag.{pattern_of, is_neither, is_free, is_allocated}
 use Rattle.tags.specs.Verdict.{verdict_number, verdict_value, is_found_free}
 use Rattle.tags.specs.declared.format.Format.{Format}
-use Rattle.tags.specs.declared.size_code.Decoded.{Decoded}
-use Rattle.tags.specs.declared.size_code.Decoded.TheVariants as decoded
 use Rattle.tags.specs.declared.tag.Pattern.{Pattern}
 use Rattle.tags.specs.declared.verdict.Verdict.{Verdict}
 use Rattle.tags.specs.declared.verdict.Verdict.TheVariants.{Free, Whole, Allocated, NotOneRecord, BadFill, BadRedzone, BadSizeCode, Overrun}
@@ -31,8 +29,6 @@ use Rattle.geometry.specs.Sheet.{chunk_place, record_address}
 use Rattle.sheet.specs.Areas.{Image, chunk_at}
 use Rattle.chain.specs.Pairing.{own_of, by_own}
 use Rattle.verdicts.specs.Judge.{is_listed, is_freed_twice, is_at_rest, rest_verdict, chained_verdict, owned_verdict, standing_of, verdict_of}
-use Rattle.chain.specs.declared.pairing.Own.{Own}
-use Rattle.chain.specs.declared.pairing.Own.TheVariants.{One, NotOne}
 use Rattle.verdicts.specs.declared.judge.Standing.{Standing}
 
 part-most : (l : List ℕ) (at len : ℕ) → length (part l at len) ≤ len
@@ -50,9 +46,9 @@ differing : (P : Verdict → Type 0) (xs ys : List ℕ) (f : ℕ → Verdict) (v
     → P (by_difference (difference xs ys) f v)
 differing P xs ys f v h p = go (difference xs ys) refl
   where
-    go : (d : Difference) → difference xs ys ≡ d → P (by_difference d f v)
-    go (At o) e = h o (differs_within xs ys o e)
-    go Nowhere e = p
+    go : (d : Option ℕ) → difference xs ys ≡ d → P (by_difference d f v)
+    go (Some o) e = h o (differs_within xs ys o e)
+    go None e = p
 
 zone_small : (c zone : List ℕ) (v : Verdict) → Small c v → Small c (zone_verdict c zone v)
 unfolding zone_verdict
@@ -80,9 +76,9 @@ module _ (f : Format) (c : List ℕ) where
       by_test (Small c) (eqb (r1_of f c) redzone)
       (λ _. zone_small c (word_bytes f redzone) Whole (omega arith)) (λ _. go (decoded_of (r1_of f c) (buffer_size c)) refl)
     where
-      go : (d : Decoded) → decoded_of (r1_of f c) (buffer_size c) ≡ d → Small c (by_decoded d (sized_verdict f c) BadSizeCode)
-      go (decoded.Size s) e = sized_small s (decoded_within (r1_of f c) (buffer_size c) s e).1
-      go (decoded.Bad how) e = omega arith
+      go : (d : Result ℕ BadCode) → decoded_of (r1_of f c) (buffer_size c) ≡ d → Small c (by_decoded d (sized_verdict f c) BadSizeCode)
+      go (Ok s) e = sized_small s (decoded_within (r1_of f c) (buffer_size c) s e).1
+      go (Err how) e = omega arith
 
   -- a request is no more than its coded size
   header_small : (s : ℕ) → s ≤ buffer_size c + 8 → Small c (header_verdict f c s)
@@ -117,13 +113,13 @@ pub value_small : (m : Image) (i : ℕ) → verdict_value (verdict_of m i) ≤ m
 unfolding verdict_of
 value_small m i = go (own_of m i)
   where
-    go : (o : Own)
+    go : (o : Option ℕ)
         → verdict_value (by_own o (λ j. owned_verdict m.sheet.format (chunk_at m i) (record_address m.sheet j) (standing_of m i j)) NotOneRecord)
         ≤ m.sheet.chunk + 8
-    go (One j) =
+    go (Some j) =
         omega (
           arith,
           owned-small m.sheet.format (chunk_at m i) (record_address m.sheet j) (standing_of m i j),
           part-most m.heap (chunk_place m.sheet i) m.sheet.chunk,
         )
-    go NotOne = omega arith
+    go None = omega arith

@@ -4,7 +4,7 @@
 // to its place. It belongs to the layer of words, and stands apart since a run's loops are the dearest to check there.
 #![tactic(auto)]
 
-// Eights of bytes that are compared at once.
+// Eights of bytes that are written or compared at once.
 mod eight;
 
 // Runs of a repeated word.

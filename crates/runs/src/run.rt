@@ -1,75 +1,61 @@
-// Runs of bytes that repeat a word. The word is given as the number whose bytes, the lowest first, are those to repeat: whoever
-// calls has turned it into its order, and nothing here knows of one.
+// Runs of bytes that repeat a word. The word is given as its four bytes: whoever calls has put them into their order, and nothing
+// here knows of one.
 ghost use Rattle.std.specs.Prelude.{◌≡◌, ◌+◌, ◌%◌, ◌≤◌, length};
 ghost use Rattle.std.proofs.lemmas.List.Edits.{sets};
 ghost use Rattle.words.specs.Word.{part};
-ghost use Rattle.words.specs.Native.{low_bytes};
 ghost use Rattle.runs.specs.Run.{repeated, difference};
 
 use crate::eight;
-use words::word::Order;
-use words::{native, word};
-
-// Where two runs of bytes differ first, counted from their start.
-#[derive(Clone, Copy)]
-pub enum Difference {
-    At(usize),
-    Nowhere,
-}
 
 // Fills `len` bytes from an offset on with a word again and again, two words in a turn; a buffer is a multiple of 8 bytes.
-pub fn fill(s: &mut [u8], at: usize, len: usize, w: u32)
+#[tactic(auto, unfolding(crate::specs::Run::repeated))]
+pub fn fill(s: &mut [u8], at: usize, len: usize, w: [u8; 4])
     requires len_in_bounds { at + len ≤ length s.old }
     requires len_value { len % 8 ≡ 0 }
-    ensures { s.new ≡ sets s.old at (repeated len (low_bytes 4 w)) }
+    ensures { s.new ≡ sets s.old at (repeated len w) }
 {
-    let v = eight::twice(w);
-    let mut i = 0;
-    while i < len {
-        native::store8(s, at + i, v);
-        i += 8;
+    let two = eight::twice(w);
+    for k in 0..len / 8 {
+        eight::write(s, at + k * 8, two);
     }
 }
 
 // The same for a run of whole words: if it is no multiple of 8 bytes, a word is left to be written behind the eights.
-pub fn fill_words(s: &mut [u8], at: usize, len: usize, w: u32)
+pub fn fill_words(s: &mut [u8], at: usize, len: usize, w: [u8; 4])
     requires len_in_bounds { at + len ≤ length s.old }
     requires len_value { len % 4 ≡ 0 }
-    ensures { s.new ≡ sets s.old at (repeated len (low_bytes 4 w)) }
+    ensures { s.new ≡ sets s.old at (repeated len w) }
 {
     let eights = len - len % 8;
     fill(s, at, eights, w);
     if eights < len {
-        word::write_u32(Order::LowFirst, s, at + eights, w);
+        write_run(s, at + eights, &w);
     }
 }
 
-// The first place at which the four bytes at an offset differ from a word. The lowest bit that differs lies in the first byte that
-// does.
-pub fn word_difference(s: &[u8], at: usize, w: u32) -> Difference
+// The first place at which the four bytes at an offset differ from a word.
+pub fn word_difference(s: &[u8], at: usize, w: [u8; 4]) -> Option<usize>
     requires { at + 4 ≤ length s.now }
-    ensures { result ≡ difference (part s.now at 4) (low_bytes 4 w) }
+    ensures { result ≡ difference (part s.now at 4) w }
 {
-    let x = native::load4(s, at) ^ w;
-    if x == 0 {
-        return Difference::Nowhere;
-    }
-    Difference::At((u32::trailing_zeros(x) / 8) as usize)
+    let here = [s[at], s[at + 1], s[at + 2], s[at + 3]];
+    let x = u32::from_le_bytes(here) ^ u32::from_le_bytes(w);
+    eight::lowest_byte(u64::from(x))
 }
 
 // The first place at which the eight bytes at an offset differ from a word twice.
-pub fn two_words_difference(s: &[u8], at: usize, w: u32) -> Difference
+pub fn two_words_difference(s: &[u8], at: usize, w: [u8; 4]) -> Option<usize>
     requires { at + 8 ≤ length s.now }
-    ensures { result ≡ difference (part s.now at 8) (repeated 8 (low_bytes 4 w)) }
+    ensures { result ≡ difference (part s.now at 8) (repeated 8 w) }
 {
     eight::difference_at(s, at, eight::twice(w))
 }
 
 // The first place at which `len` bytes from an offset on differ from a word again and again. The longer case stands first,
 // since the compiler then puts it first.
-pub fn first_difference(s: &[u8], at: usize, len: usize, w: u32) -> Difference
+pub fn first_difference(s: &[u8], at: usize, len: usize, w: [u8; 4]) -> Option<usize>
     requires { at + len ≤ length s.now }
-    ensures { result ≡ difference (part s.now at len) (repeated len (low_bytes 4 w)) }
+    ensures { result ≡ difference (part s.now at len) (repeated len w) }
 {
     if 8 <= len {
         return long_difference(s, at, len, w);
@@ -78,60 +64,50 @@ pub fn first_difference(s: &[u8], at: usize, len: usize, w: u32) -> Difference
 }
 
 // The same of eight bytes or more: the first eight by themselves, where most hurts are, then whole eights, and then the last few.
-fn long_difference(s: &[u8], at: usize, len: usize, w: u32) -> Difference
+fn long_difference(s: &[u8], at: usize, len: usize, w: [u8; 4]) -> Option<usize>
     requires len_in_bounds { at + len ≤ length s.now }
     requires le_len { 8 ≤ len }
-    ensures { result ≡ difference (part s.now at len) (repeated len (low_bytes 4 w)) }
+    ensures { result ≡ difference (part s.now at len) (repeated len w) }
 {
-    let head = two_words_difference(s, at, w);
-    if let Difference::At(o) = head {
-        return Difference::At(o);
+    if let Some(o) = two_words_difference(s, at, w) {
+        return Some(o);
     }
     let whole = len / 8 * 8;
-    let eights = difference_by_eights(s, at, whole, w);
-    if let Difference::At(o) = eights {
-        return Difference::At(o);
+    if let Some(o) = difference_by_eights(s, at, whole, w) {
+        return Some(o);
     }
-    let rest = difference_by_bytes(s, at + whole, len - whole, w);
-    match rest {
-        Difference::At(o) => Difference::At(whole + o),
-        Difference::Nowhere => Difference::Nowhere,
-    }
+    let o = difference_by_bytes(s, at + whole, len - whole, w)?;
+    Some(whole + o)
 }
 
 // The same of whole eights, as a buffer has them: blocks that are sure to repeat the word are passed over.
-pub fn difference_by_eights(s: &[u8], at: usize, len: usize, w: u32) -> Difference
+pub fn difference_by_eights(s: &[u8], at: usize, len: usize, w: [u8; 4]) -> Option<usize>
     requires len_in_bounds { at + len ≤ length s.now }
     requires le_len { 8 ≤ len }
     requires len_value { len % 8 ≡ 0 }
-    ensures { result ≡ difference (part s.now at len) (repeated len (low_bytes 4 w)) }
+    ensures { result ≡ difference (part s.now at len) (repeated len w) }
 {
-    let v = eight::twice(w);
-    let mut i = eight::alike_blocks(s, at, len, w);
-    while i < len {
-        let d = eight::difference_at(s, at + i, v);
-        if let Difference::At(o) = d {
-            return Difference::At(i + o);
+    let two = eight::twice(w);
+    for k in eight::alike_blocks(s, at, len, w) / 8..len / 8 {
+        let i = k * 8;
+        if let Some(o) = eight::difference_at(s, at + i, two) {
+            return Some(i + o);
         }
-        i += 8;
     }
-    Difference::Nowhere
+    None
 }
 
 // The same, one byte after the other.
-pub fn difference_by_bytes(s: &[u8], at: usize, len: usize, w: u32) -> Difference
+pub fn difference_by_bytes(s: &[u8], at: usize, len: usize, w: [u8; 4]) -> Option<usize>
     requires { at + len ≤ length s.now }
-    ensures { result ≡ difference (part s.now at len) (repeated len (low_bytes 4 w)) }
+    ensures { result ≡ difference (part s.now at len) (repeated len w) }
 {
-    let pattern = native::bytes4(w);
-    let mut i = 0;
-    while i < len {
-        if s[at + i] != pattern[i % 4] {
-            return Difference::At(i);
+    for (i, b) in s[at..at + len].iter().enumerate() {
+        if *b != w[i % 4] {
+            return Some(i);
         }
-        i += 1;
     }
-    Difference::Nowhere
+    None
 }
 
 // Writes a run of bytes from an offset on.

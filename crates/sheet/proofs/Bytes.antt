@@ -1,39 +1,33 @@
 -- A sheet that is written field by field, and read back; another head is another sheet. Assumes nothing.
+use Rattle.std.specs.Prelude.{Ok}
 use mathlib.Core.Path.{◌≡◌, refl, sym, ap, ◌∙◌}
 use mathlib.Core.Bool.{Bool, true, false, ◌&&◌, ◌||◌, and_assoc, and-true as and_right, and-eq-true_iff, or-true}
 use mathlib.Core.List.{List, [], ◌∷◌, ◌++◌, append_assoc, append-nil}
-use Prim.Native.Nat.{ℕ, zero, suc, ◌+◌, ◌*◌, ◌/◌, ◌%◌, ◌^◌, ◌≤◌, ◌<◌}
-use native.Mathlib.Nat.{add-zero, mod-lt}
+use Prim.Native.Nat.{ℕ, zero, suc, ◌+◌, ◌*◌, ◌%◌, ◌^◌, ◌≤◌, ◌<◌}
 use native.Mathlib.Decide.{ℕ_discrete}
 use native.Mathlib.Omega.{arith}
 use borrow.Author.Tests.{eq-eqb, ne_eqb, eqb-true, le-ltb}
-use lib.Arith.{digits_mod, mod-mul}
+use lib.Arith.{digits_mod}
 use lib.Dec.{eqb, lit<}
 use lib.ListN.{length, length-append, get_or, set}
-use lib.Seq.{sets}
-use Rattle.words.specs.Word.{part, turned, number, number_at}
-use Rattle.words.specs.Native.{low_number, low_bytes}
+use lib.Seq.{sets, length-sets}
+use borrow.Rule.Slice.PartMut.{put_mid}
+use Rattle.words.specs.Word.{part, turned, number, number_at, bytes_of}
+use Rattle.words.specs.Native.{low_bytes}
 use Rattle.words.specs.declared.word.Order.{Order}
 use Rattle.words.specs.declared.word.Order.TheVariants.{HighFirst, LowFirst}
+use Rattle.words.proofs.Std.{written, read_1, read_2, read_low_4}
 use Rattle.words.proofs.Numbers.{length_bytes_of, number_back}
-use Rattle.words.proofs.Parts.{part-part, part_front, part_right, sets_mid, sets_right, sets_three, sets-whole}
+use Rattle.words.proofs.Parts.{part_front, part_right, sets_mid, sets_right, sets_three, sets-whole}
 use Rattle.sheet.specs.Fields.{Field, short_fields, fields, field_length, length_to, field_is, fields_from, is_short, is_long, shaped, ends_right, sheet_of}
-use Rattle.sheet.specs.Fields.{field_bytes, field, fields_bytes, bodies_of, sheet_bytes, short_length, sheet_length, body_at, with_head}
+use Rattle.sheet.specs.Fields.{field_bytes, field_of, field, fields_bytes, bodies_of, sheet_bytes, short_length, sheet_length, body_at, with_head}
 use Rattle.sheet.specs.Fields.{order_number, order_of, order_lawful, number_of}
 use Rattle.geometry.specs.Sheet.{headed, heap_length, records_length}
 use Rattle.geometry.specs.Limits.{lawful}
 use Rattle.sheet.specs.Opening.{measured, numbered, ordered, opened_of}
 use Rattle.geometry.specs.declared.sheet.Sheet.{Sheet}
-use Rattle.sheet.specs.declared.opening.Opened.TheVariants as opened
 
 -- ---- tested
-
--- the first three bytes of a number
-digits : (x : ℕ) → x % 16777216 ≡ x % 256 + 256 * (x / 256 % 256) + 65536 * (x / 256 / 256 % 256)
-digits x =
-    let low = mod-mul x {m = 65536} {c = 256} (lit< tt) (lit< tt) in
-    let high = mod-mul (x / 256) {m = 256} {c = 256} (lit< tt) (lit< tt) in
-    omega (arith, low, high)
 
 -- equal numbers have equal lowest bytes
 lowest : (a b k m : ℕ) → a < 256 → b < 256 → k * 256 + a ≡ m * 256 + b → a ≡ b
@@ -54,20 +48,20 @@ three_same n a b c tag len e ha hb hc ht hl = go (ℕ_discrete a tag) (ℕ_discr
         )
     go (no p) d = rw (ne_eqb n (tag + 65536 * len) (λ f. p (lowest a tag (c * 256 + b) (len * 256) ha ht (omega arith))), ne_eqb a tag p)
 
--- the tag and the length of a field, by its first four bytes
-pub head_is : (l : List ℕ) (at x tag len : ℕ) → low_bytes 4 x ≡ part l at 4 → tag < 256 → len < 256
+-- the tag and the length of a field, by the number of its first four bytes
+pub head_is : (l : List ℕ) (at x tag len : ℕ) → x ≡ number_at LowFirst 4 l at → at + 4 ≤ length l → ((i : ℕ) → get_or l i 0 < 256) → tag < 256 → len < 256
     → eqb (x % 16777216) (tag + 65536 * len) ≡ field_is l at tag len
-unfolding field_is number_at number turned low_number low_bytes part
-head_is l at x tag len e ht hl =
-    let p = part-part l at 4 0 1 (omega arith) in
-    let q = part-part l at 4 1 2 (omega arith) in
-    let one : number_at HighFirst 1 l at ≡ x % 256
-    = ap (λ (k : ℕ). number_at HighFirst 1 l k) (sym (add-zero at)) ∙ ap (number HighFirst) (sym p ∙ ap (λ (m : List ℕ). part m 0 1) (sym e)) ∙ omega arith in
-    let two : number_at HighFirst 2 l (at + 1) ≡ x / 256 / 256 % 256 + 256 * (x / 256 % 256)
-    = ap (number HighFirst) (sym q ∙ ap (λ (m : List ℕ). part m 1 2) (sym e)) ∙ omega arith in
-    rw (one, two)
-    (three_same (x % 16777216) (x % 256) (x / 256 % 256) (x / 256 / 256 % 256) tag len (digits x)
-    (mod-lt x (lit< tt)) (mod-lt (x / 256) (lit< tt)) (mod-lt (x / 256 / 256) (lit< tt)) ht hl)
+unfolding field_is
+head_is l at x tag len e h small ht hl =
+    let a = get_or l at 0 in
+    let b = get_or l (at + 1) 0 in
+    let c = get_or l (at + 2) 0 in
+    let all : x % 16777216 ≡ a + 256 * b + 65536 * c =
+    rw (e, read_low_4 l at h) (omega (arith, small at, small (at + 1), small (at + 2), small (at + 3))) in
+    let one : number_at HighFirst 1 l at ≡ a = read_1 l at (omega arith) in
+    let third : get_or l (at + 1 + 1) 0 ≡ c = ap (λ (k : ℕ). get_or l k 0) (omega arith) in
+    let two : number_at HighFirst 2 l (at + 1) ≡ c + 256 * b = rw (read_2 l (at + 1) (omega arith)) (omega arith) in
+    rw (one, two) (three_same (x % 16777216) a b c tag len all (small at) (small (at + 1)) (small (at + 2)) ht hl)
 
 -- eight tests in a row, as the code joins them and as the rule does
 pub eight : {a b c d e f g h a' b' c' d' e' f' g' h' : Bool} → a ≡ a' → b ≡ b' → c ≡ c' → d ≡ d' → e ≡ e' → f ≡ f' → g ≡ g' → h ≡ h'
@@ -83,15 +77,18 @@ either false b true false = refl
 either false b false true = refl
 either false b false false = refl
 
-pub shaped_both : (s : List ℕ) {a b : Bool} → a ≡ fields_from short_fields 0 s → b ≡ ends_right s → a && b ≡ shaped s
+pub shaped_both : (s : List ℕ) → shaped s ≡ fields_from short_fields 0 s && ends_right s
 unfolding shaped is_short is_long ends_right
-shaped_both s ea eb =
+shaped_both s =
     let nine : fields_from fields 0 s ≡ fields_from short_fields 0 s && field_is s short_length 9 1 = simp (and_assoc, and_right) in
-    rw (ea, eb, nine) (either (fields_from short_fields 0 s) (field_is s short_length 9 1) (eqb (length s) short_length) (eqb (length s) sheet_length))
+    rw nine (sym (either (fields_from short_fields 0 s) (field_is s short_length 9 1) (eqb (length s) short_length) (eqb (length s) sheet_length)))
 
-pub shaped_less : (s : List ℕ) → length s < short_length → false ≡ shaped s
+pub shaped_less : (s : List ℕ) → length s < short_length → shaped s ≡ false
 unfolding shaped is_short is_long
 shaped_less s h = rw (ne_eqb (length s) short_length (λ q. omega arith), ne_eqb (length s) sheet_length (λ q. omega arith))
+
+-- which sheets have one of the two forms
+pub ruleset shapes = (shaped_both, shaped_less)
 
 -- a sheet of either form has the eight fields of the short one
 pub shaped-long : (s : List ℕ) → shaped s ≡ true → short_length ≤ length s
@@ -109,18 +106,33 @@ length-field : (tag len body : ℕ) → length (field tag len body) ≡ 3 + len
 length-field tag len body = simp (length-append, length_bytes_of) (omega arith)
 
 -- a field is a tag, a length and a body in a row
-pub field-run : (l a b c : List ℕ) (at tag len body : ℕ) → a ≡ sets l at (field_bytes 1 tag) → b ≡ sets a (at + 1) (field_bytes 2 len)
-    → c ≡ sets b (at + 3) (field_bytes len body) → c ≡ sets l at (field tag len body)
-field-run l a b c at tag len body ea eb ec =
-    sets_three l (field_bytes 1 tag) (field_bytes 2 len) (field_bytes len body) at (at + 1) (at + 3)
-    (omega (arith, length_bytes_of HighFirst 1 tag)) (omega (arith, length_bytes_of HighFirst 2 len)) ea eb ec
+pub field_run : (l a b y body : List ℕ) (at tag n m : ℕ) → a ≡ sets l at (field_bytes 1 tag) → b ≡ sets a (at + 1) (field_bytes 2 n)
+    → y ≡ body → length body ≡ n → m ≡ n → at + 3 + n ≤ length l
+    → put_mid (at + 3) m b y ≡ sets l at (field_of tag body)
+field_run l a b y body at tag n m ea eb ey en em h =
+    let long : length b ≡ length l = rw (eb, ea) (simp length-sets) in
+    let e : put_mid (at + 3) m b y ≡ sets b (at + 3) body = rw ey (written (at + 3) m b body (em ∙ sym en) (omega arith)) in
+    let two : b ≡ sets a (at + 1) (field_bytes 2 (length body)) = rw en eb in
+    sets_three l (field_bytes 1 tag) (field_bytes 2 (length body)) body at (at + 1) (at + 3)
+    (omega (arith, length_bytes_of HighFirst 1 tag)) (omega (arith, length_bytes_of HighFirst 2 (length body))) ea two e
+
+-- a byte is the number of itself
+pub one_byte : (v : ℕ) → v < 256 → v ∷ [] ≡ field_bytes 1 v
+unfolding bytes_of turned low_bytes
+one_byte v h = ap (λ (x : ℕ). x ∷ []) (omega arith)
+
+-- the field of a number, by the bytes of the number
+of_number : (tag len x : ℕ) (body : List ℕ) → body ≡ field_bytes len x → field_of tag body ≡ field tag len x
+of_number tag len x body e = rw (e, length_bytes_of HighFirst len x)
 
 -- three fields in a row
-pub fields-run : (l : List ℕ) (at i j t u v w₁ w₂ w₃ x y z : ℕ) {a b c : List ℕ} → at + (3 + w₁) ≡ i → i + (3 + w₂) ≡ j
-    → a ≡ sets l at (field t w₁ x) → b ≡ sets a i (field u w₂ y) → c ≡ sets b j (field v w₃ z)
+pub fields-run : (l : List ℕ) (at i j t u v w₁ w₂ w₃ x y z : ℕ) {p q r a b c : List ℕ} → at + (3 + w₁) ≡ i → i + (3 + w₂) ≡ j
+    → p ≡ field_bytes w₁ x → q ≡ field_bytes w₂ y → r ≡ field_bytes w₃ z
+    → a ≡ sets l at (field_of t p) → b ≡ sets a i (field_of u q) → c ≡ sets b j (field_of v r)
     → c ≡ sets l at (field t w₁ x ++ field u w₂ y ++ field v w₃ z)
-fields-run l at i j t u v w₁ w₂ w₃ x y z ei ej =
+fields-run l at i j t u v w₁ w₂ w₃ x y z {p} {q} {r} {a} {b} {c} ei ej ep eq er ea eb ec =
     sets_three l (field t w₁ x) (field u w₂ y) (field v w₃ z) at i j (omega (arith, length-field t w₁ x)) (omega (arith, length-field u w₂ y))
+    (rw (of_number t w₁ x p ep) at ea) (rw (of_number u w₂ y q eq) at eb) (rw (of_number v w₃ z r er) at ec)
 
 -- how long the fields of a table are
 length_fields : (fs : List Field) (bs : List ℕ) → length bs ≡ length fs → length (fields_bytes fs bs) ≡ length_to (length fs) fs
@@ -334,7 +346,7 @@ module _ (g : Sheet) where
 
   -- and the image opens
   pub sheet-opens : (h r : ℕ) → Fits g → lawful g ≡ true → h ≡ heap_length g → r ≡ records_length g
-      → opened_of g.format.profile (sheet_bytes g) h r ≡ opened.Sheet g
+      → opened_of g.format.profile (sheet_bytes g) h r ≡ Ok g
   unfolding opened_of ordered numbered measured
   sheet-opens h r f l eh er =
       rw (

@@ -1,5 +1,5 @@
 -- The three areas that a call is lent, what a call leaves in them, and the image that they are once they are open, with its magazine list. Assumes nothing.
-use Rattle.std.specs.Prelude.{Bool, true, false, cond, List, [], ◌∷◌, ℕ, eqb, leb, length}
+use Rattle.std.specs.Prelude.{Bool, true, false, cond, List, [], ◌∷◌, ℕ, eqb, leb, length, Result}
 pub use Rattle.area.specs.Place.{PartAt}
 use Rattle.area.specs.Place.{by_place}
 use Rattle.words.specs.Word.{part}
@@ -9,7 +9,6 @@ use Rattle.tags.specs.declared.refusal.Refusal.TheVariants.{BadLength, NoSuchBuf
 use Rattle.geometry.specs.Sheet.{chunk_place, buffer_of}
 use Rattle.sheet.specs.Opening.{opened_of, opened_with_log, by_opened}
 use Rattle.geometry.specs.declared.sheet.Sheet.{Sheet}
-use Rattle.sheet.specs.declared.opening.Opened.{Opened}
 
 pub record Areas : Type 0 where
   pub sheet : List ℕ
@@ -28,19 +27,19 @@ by_lengths f a = f (length a.sheet) (length a.heap) (length a.records)
 -- ---- what a call gives
 
 -- K1 (all that a call writes): what it answers, and the areas afterwards
-pub record Result (A : Type 0) : Type 0 where
+pub record Outcome (A : Type 0) : Type 0 where
   pub answer : A
   pub areas : Areas
 
-abbrev pub outcome : {A : Type 0} → A → Areas → Result A
+abbrev pub outcome : {A : Type 0} → A → Areas → Outcome A
 outcome answer a = record { answer = answer; areas = a }
 
 -- E1 (a refused call leaves every lent byte)
-abbrev pub refused_with : {A : Type 0} → A → Areas → Result A
+abbrev pub refused_with : {A : Type 0} → A → Areas → Outcome A
 refused_with answer a = outcome answer a
 
 -- the same, with the answer in another form
-abbrev pub answered : {A B : Type 0} → (A → B) → Result A → Result B
+abbrev pub answered : {A B : Type 0} → (A → B) → Outcome A → Outcome B
 answered f r = outcome (f r.answer) r.areas
 
 -- ---- an image
@@ -71,14 +70,14 @@ abbrev pub image_in : Sheet → List ℕ → List ℕ → Image
 image_in g heap records = image g heap records []
 
 -- E3 (X1, X2, X3): whether the areas of a call are an image of a profile, and with a log of l bytes
-abbrev pub opening : Profile → Areas → Opened
+abbrev pub opening : Profile → Areas → Result Sheet Refusal
 opening p a = opened_of p a.sheet (length a.heap) (length a.records)
 
-abbrev pub opening_with_log : Profile → Areas → ℕ → Opened
+abbrev pub opening_with_log : Profile → Areas → ℕ → Result Sheet Refusal
 opening_with_log p a l = opened_with_log p a.sheet (length a.heap) (length a.records) l
 
 -- by whether the areas are an image, as one of the two tells
-abbrev pub by_image : {A : Type 0} → Opened → Areas → (Image → A) → (Refusal → A) → A
+abbrev pub by_image : {A : Type 0} → Result Sheet Refusal → Areas → (Image → A) → (Refusal → A) → A
 by_image o a f shut = by_opened o (λ g. f (image_of a g)) shut
 
 -- M1 (every word is the address of a buffer)
@@ -91,7 +90,7 @@ abbrev pub by_magazines : {A : Type 0} → Sheet → List ℕ → A → (Refusal
 by_magazines g l rest shut = cond (leb (length l) g.count) (cond (all_buffers g l) rest (shut NoSuchBuffer)) (shut BadLength)
 
 -- by whether the areas are an image and the list is one of its buffers, as the opening tells of the areas
-abbrev pub by_listed : {A : Type 0} → Opened → Areas → List ℕ → (Image → A) → (Refusal → A) → A
+abbrev pub by_listed : {A : Type 0} → Result Sheet Refusal → Areas → List ℕ → (Image → A) → (Refusal → A) → A
 by_listed o a l f shut = by_opened o (λ g. by_magazines g l (f (image_with a l g)) shut) shut
 
 -- X13 (thread 0 is nobody)

@@ -121,7 +121,11 @@ sheet_of p s = record {
 
 -- ---- the bytes
 
--- S1 (a field: tag, length, body)
+-- S1 (a field: tag, length, body), of the bytes of its body
+abbrev pub field_of : ℕ → List ℕ → List ℕ
+field_of tag body = field_bytes 1 tag ++ field_bytes 2 (length body) ++ body
+
+-- and of a body that is one number
 abbrev pub field : ℕ → ℕ → ℕ → List ℕ
 field tag len body = field_bytes 1 tag ++ field_bytes 2 len ++ field_bytes len body
 

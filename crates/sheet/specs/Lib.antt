@@ -1,3 +1,4 @@
 pub mod Fields
 pub mod Opening
 pub mod Areas
+pub mod Lent

@@ -1,15 +1,15 @@
 // The bytes of a sheet: tagged fields, one after the other, eight in the short form and in the long form one more, the order.
 // Where each stands follows from the lengths of those before it. The numbers of a sheet have the highest byte first, whatever
 // the order of its image.
-ghost use Rattle.std.specs.Prelude.{◌≡◌, ◌++◌, ◌+◌, ◌≤◌, length};
+ghost use Rattle.std.specs.Prelude.{◌≡◌, ◌++◌, ◌+◌, ◌<◌, ◌≤◌, length};
 ghost use Rattle.std.proofs.lemmas.List.Edits.{sets};
-ghost use Rattle.sheet.specs.Fields.{field_number, field_is, fields_from, short_fields, shaped, ends_right, order_number, order_of, number_of, sheet_of, field, sheet_bytes, short_length, sheet_length, with_head};
+ghost use Rattle.sheet.specs.Fields.{field_number, field_is, fields_from, short_fields, shaped, ends_right, order_number, order_of, number_of, sheet_of, field_of, field, sheet_bytes, short_length, sheet_length, with_head};
 ghost use Rattle.geometry.specs.Limits.{Lawful};
 
 use geometry::sheet::Sheet;
 use tags::format::{Format, Profile};
+use words::word;
 use words::word::Order;
-use words::{native, word};
 
 // What a field has before its body, and with a body of four bytes, of two.
 const BEFORE: usize = 3;
@@ -44,11 +44,12 @@ pub const LENGTH: usize = ORDER + BEFORE + 1;
 
 // Whether the field at an offset has a tag and a length. Its first three bytes are compared at once, as the machine has them:
 // the tag, then the length's high byte, which is 0, and its low byte.
+#[tactic(auto, using(crate::proofs::Bytes::head_is))]
 fn field_is(s: &[u8], at: usize, tag: u8, len: u8) -> bool
     requires { at + 4 ≤ length s.now }
     ensures { result ≡ field_is s.now at tag len }
 {
-    native::load4(s, at) % 16777216 == (tag as u32) + 65536 * (len as u32)
+    Order::LowFirst.read_u32(s, at) % 16777216 == (tag as u32) + 65536 * (len as u32)
 }
 
 // Whether the first eight fields have the stated tags and lengths.
@@ -67,27 +68,20 @@ fn has_eight(s: &[u8]) -> bool
 }
 
 // Whether nothing stands behind the eight fields, or the ninth.
+#[tactic(auto, unfolding(crate::specs::Fields::ends_right))]
 fn ends_right(s: &[u8]) -> bool
     requires { short_length ≤ length s.now }
     ensures { result ≡ ends_right s.now }
 {
-    if s.len() == SHORT_FORM {
-        return true;
-    }
-    if s.len() == LENGTH {
-        return field_is(s, ORDER, 9, 1);
-    }
-    false
+    s.len() == SHORT_FORM || s.len() == LENGTH && field_is(s, ORDER, 9, 1)
 }
 
 // Whether the sheet has one of the two forms: its length, and its stated tags and lengths.
+#[tactic(auto, using(crate::proofs::Bytes::shapes))]
 pub(crate) fn is_shaped(s: &[u8]) -> bool
     ensures { result ≡ shaped s.now }
 {
-    if s.len() < SHORT_FORM {
-        return false;
-    }
-    has_eight(s) & ends_right(s)
+    s.len() >= SHORT_FORM && has_eight(s) & ends_right(s)
 }
 
 // The body, of two bytes, of the field at an offset.
@@ -103,10 +97,11 @@ fn long_body(s: &[u8], at: usize) -> u32
     requires { at + 7 ≤ length s.now }
     ensures { result ≡ field_number 4 s.now (at + 3) }
 {
-    word::read_u32(Order::HighFirst, s, at + BEFORE)
+    Order::HighFirst.read_u32(s, at + BEFORE)
 }
 
 // The number of the order, 0 where the sheet has no such field.
+#[tactic(auto, unfolding(crate::specs::Fields::order_number))]
 pub(crate) fn order_number(s: &[u8]) -> u8
     ensures { result ≡ order_number s.now }
 {
@@ -120,10 +115,7 @@ pub(crate) fn order_number(s: &[u8]) -> u8
 fn order_of(v: u8) -> Order
     ensures { result ≡ order_of v }
 {
-    if v == 0 {
-        return Order::HighFirst;
-    }
-    Order::LowFirst
+    Order::from(v != 0)
 }
 
 fn number_of(o: Order) -> u8
@@ -136,6 +128,7 @@ fn number_of(o: Order) -> u8
 }
 
 // The numbers in the fields' bodies, and the profile, which a sheet does not have.
+#[tactic(auto, unfolding(crate::specs::Fields::sheet_of))]
 pub(crate) fn read(profile: Profile, s: &[u8]) -> Sheet
     requires { short_length ≤ length s.now }
     ensures { result ≡ sheet_of profile s.now }
@@ -154,34 +147,15 @@ pub(crate) fn read(profile: Profile, s: &[u8]) -> Sheet
     }
 }
 
-// Writes a field whose body is one byte.
-fn write_byte(s: &mut [u8], at: usize, tag: u8, body: u8)
-    requires { at + 4 ≤ length s.old }
-    ensures { s.new ≡ sets s.old at (field tag 1 body) }
+// Writes a field: its tag, the length of its body, and its body.
+fn write_field<const N: usize>(s: &mut [u8], at: usize, tag: u8, body: [u8; N])
+    requires n_bound { N < 65536 }
+    requires in_bounds { at + 3 + N ≤ length s.old }
+    ensures { s.new ≡ sets s.old at (field_of tag body.entry) }
 {
     word::write_u8(s, at, tag);
-    word::write_u16(s, at + 1, 1);
-    word::write_u8(s, at + 3, body);
-}
-
-// Writes a field whose body is a number of two bytes.
-fn write_short(s: &mut [u8], at: usize, tag: u8, body: u16)
-    requires { at + 5 ≤ length s.old }
-    ensures { s.new ≡ sets s.old at (field tag 2 body) }
-{
-    word::write_u8(s, at, tag);
-    word::write_u16(s, at + 1, 2);
-    word::write_u16(s, at + 3, body);
-}
-
-// Writes a field whose body is a number of four bytes.
-fn write_long(s: &mut [u8], at: usize, tag: u8, body: u32)
-    requires { at + 7 ≤ length s.old }
-    ensures { s.new ≡ sets s.old at (field tag 4 body) }
-{
-    word::write_u8(s, at, tag);
-    word::write_u16(s, at + 1, 4);
-    word::write_u32(Order::HighFirst, s, at + 3, body);
+    word::write_u16(s, at + 1, N as u16);
+    s[at + BEFORE..at + BEFORE + N].copy_from_slice(&body);
 }
 
 // Writes the first three fields, the addresses.
@@ -190,9 +164,9 @@ fn write_addresses(s: &mut [u8], g: Sheet)
     ensures { s.new ≡ sets s.old 0
         (field 1 4 g.cache ++ field 2 4 g.heap_base ++ field 3 4 g.record_base) }
 {
-    write_long(s, CACHE, 1, g.cache);
-    write_long(s, HEAP_BASE, 2, g.heap_base);
-    write_long(s, RECORD_BASE, 3, g.record_base);
+    write_field(s, CACHE, 1, g.cache.to_be_bytes());
+    write_field(s, HEAP_BASE, 2, g.heap_base.to_be_bytes());
+    write_field(s, RECORD_BASE, 3, g.record_base.to_be_bytes());
 }
 
 // Writes the next three, the sizes and the count.
@@ -202,9 +176,9 @@ fn write_sizes(s: &mut [u8], g: Sheet)
     ensures { s.new
         ≡ sets s.old 21 (field 4 2 g.size ++ field 5 2 g.chunk ++ field 6 2 g.count) }
 {
-    write_short(s, SIZE, 4, g.size as u16);
-    write_short(s, CHUNK, 5, g.chunk as u16);
-    write_short(s, COUNT, 6, g.count as u16);
+    write_field(s, SIZE, 4, (g.size as u16).to_be_bytes());
+    write_field(s, CHUNK, 5, (g.chunk as u16).to_be_bytes());
+    write_field(s, COUNT, 6, (g.count as u16).to_be_bytes());
 }
 
 // Writes the last three, the chain head, the flags and the order.
@@ -214,11 +188,9 @@ fn write_state(s: &mut [u8], g: Sheet)
     ensures { s.new ≡ sets s.old 36
         (field 7 4 g.head ++ field 8 2 g.flags ++ field 9 1 (number_of g.format.order)) }
 {
-    let f = g.format;
-    let o = f.order;
-    write_long(s, HEAD, 7, g.head);
-    write_short(s, FLAGS, 8, g.flags as u16);
-    write_byte(s, ORDER, 9, number_of(o));
+    write_field(s, HEAD, 7, g.head.to_be_bytes());
+    write_field(s, FLAGS, 8, (g.flags as u16).to_be_bytes());
+    write_field(s, ORDER, 9, [number_of(g.format.order)]);
 }
 
 // Writes the whole sheet, in the long form.
@@ -233,9 +205,10 @@ pub fn write(s: &mut [u8], g: Sheet)
 }
 
 // Writes the chain head of a sheet, of either form.
+#[tactic(auto, unfolding(crate::specs::Fields::with_head))]
 pub fn set_head(s: &mut [u8], head: u32)
     requires { short_length ≤ length s.old }
     ensures { s.new ≡ with_head s.old head }
 {
-    word::write_u32(Order::HighFirst, s, HEAD + BEFORE, head);
+    Order::HighFirst.write_u32(s, HEAD + BEFORE, head);
 }

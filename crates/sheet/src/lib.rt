@@ -9,3 +9,9 @@ pub mod fields;
 
 // The opening of an image.
 pub mod opening;
+
+// The areas as they are lent.
+pub mod lent;
+
+// An image that is open.
+pub mod open_image;

@@ -3,84 +3,99 @@ ghost use Rattle.std.specs.Prelude.{◌≡◌, ◌≤◌, ◌<◌, length};
 ghost use Rattle.std.proofs.lemmas.List.Edits.{sets};
 ghost use Rattle.tags.specs.Ending.{ending_value};
 ghost use Rattle.geometry.specs.Limits.{count_most};
-ghost use Rattle.sheet.specs.Areas.{areas};
-ghost use Rattle.survey.specs.Numbers.{chain_numbers, numbering, room_for, survey_numbers_of};
+ghost use Rattle.sheet.specs.Lent.{seen};
+ghost use Rattle.verdicts.specs.Marked.{image_with_list};
+ghost use Rattle.survey.specs.Numbers.{chain_numbers, numbering, room_for, survey_numbers_in, survey_numbers_of};
 
-use crate::table;
-use chain::marks::Marked;
+use chain::marks;
+use geometry::limits;
+use sheet::lent::Image;
+use sheet::open_image::OpenImage;
 use sheet::opening;
-use sheet::opening::Opened;
-use tags::ending;
 use tags::ending::Ending;
 use tags::format::Profile;
-use tags::refusal::Answer;
+use tags::refusal::Refusal;
+use verdicts::marked::MarkedImage;
 
 // The record that a chain came back to, else 0.
-fn ending_value(e: Ending) -> u32
-    requires { ending_value e < 4294967296 }
-    ensures { result ≡ ending_value e }
+fn ending_value(ending: Ending) -> u32
+    requires { ending_value ending < 4294967296 }
+    ensures { result ≡ ending_value ending }
 {
-    match e {
-        Ending::End => 0,
-        Ending::Broken => 0,
+    match ending {
         Ending::Again(i) => i as u32,
+        Ending::End | Ending::Broken => 0,
     }
 }
 
 // Writes the numbers of a chain that met so many records and ends so.
-fn put_chain(chain: &mut [u32], met: usize, e: Ending)
+fn put_chain(chain: &mut [u32], met: usize, ending: Ending)
     requires in_bounds { 3 ≤ length chain.old }
     requires met_bound { met < 4294967296 }
-    requires e_bound { ending_value e < 4294967296 }
-    ensures { chain.new ≡ sets chain.old 0 (chain_numbers met e) }
+    requires ending_bound { ending_value ending < 4294967296 }
+    ensures { chain.new ≡ sets chain.old 0 (chain_numbers met ending) }
 {
     chain[0] = met as u32;
-    chain[1] = ending::number(e);
-    chain[2] = ending_value(e);
+    chain[1] = ending.number();
+    chain[2] = ending_value(ending);
 }
 
-// Whether two rows of these lengths have room for three numbers of each of n buffers, and for three of the chain.
-fn has_room(n: usize, rows: usize, chain: usize) -> bool
-    requires { n ≤ count_most }
-    ensures { result ≡ room_for n rows chain }
+// Whether two rows of these lengths have room for three numbers of each buffer, and for three of the chain.
+fn has_room(count: usize, rows: usize, chain: usize) -> bool
+    requires { count ≤ count_most }
+    ensures { result ≡ room_for count rows chain }
 {
-    if rows < n * 3 {
-        return false;
+    count * 3 <= rows && 3 <= chain
+}
+
+// Marks an open image, judges every buffer and writes its numbers and those of the chain, or refuses and leaves both rows as they were.
+fn fill_both(
+    image: &OpenImage,
+    magazines: &[u32],
+    marks: &mut [u8],
+    rows: &mut [u32],
+    chain: &mut [u32],
+) -> Result<u32, Refusal>
+    requires { length marks.old ≡ image.now.sheet.count }
+    ensures { numbering result rows.new chain.new
+        ≡ survey_numbers_in (image_with_list image.now magazines.now) rows.old chain.old }
+{
+    let count = image.sheet.count;
+    let walked = marks::mark(image.records, magazines, image.sheet, marks)?;
+    if !has_room(count, rows.len(), chain.len()) {
+        return Err(Refusal::ShortOutput);
     }
-    3 <= chain
+    let marked = MarkedImage {
+        image: *image,
+        magazines,
+        marks,
+        ending: walked.ending,
+    };
+    marked.tell_buffers(0, count, rows);
+    put_chain(chain, walked.met, walked.ending);
+    Ok(count as u32)
 }
 
 // Fills a lent row with three numbers for each buffer and another with the three of the chain, of an image with a log; or
 // refuses and leaves both as they were.
 pub fn survey_numbers(
     profile: Profile,
-    sheet: &[u8],
-    heap: &[u8],
-    records: &[u8],
+    image: &Image,
     magazines: &[u32],
     log: &[u8],
     rows: &mut [u32],
     chain: &mut [u32],
-) -> Answer
+) -> Result<u32, Refusal>
     ensures { numbering result rows.new chain.new
-        ≡ survey_numbers_of profile (areas sheet.now heap.now records.now) magazines.now (length log.now)
-        rows.old chain.old }
+        ≡ survey_numbers_of profile (seen image.now) magazines.now (length log.now) rows.old chain.old }
 {
-    let opened = opening::open_with_log(profile, sheet, heap.len(), records.len(), log.len());
-    match opened {
-        Opened::Refused(why) => Answer::Refused(why),
-        Opened::Sheet(g) => {
-            let n = g.count;
-            let room = has_room(n, rows.len(), chain.len());
-            let marked = table::fill_table(heap, records, magazines, g, room, rows);
-            match marked {
-                Marked::Refused(why) => Answer::Refused(why),
-                Marked::Chain(walked) => {
-                    let e = walked.ending;
-                    put_chain(chain, walked.met, e);
-                    Answer::Value(n as u32)
-                }
-            }
-        }
-    }
+    let image = opening::open_image_with_log(profile, image, log)?;
+    let mut marks = [0u8; limits::MOST_BUFFERS];
+    fill_both(
+        &image,
+        magazines,
+        &mut marks[..image.sheet.count],
+        rows,
+        chain,
+    )
 }

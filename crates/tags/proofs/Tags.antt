@@ -1,21 +1,20 @@
 -- The laws of tags and of size codes. Assumes nothing.
+use Rattle.std.specs.Prelude.{Result, Ok, Err}
 use mathlib.Core.Path.{◌≡◌, refl, ap, ap₂, ◌∙◌}
-use mathlib.Core.Bool.{Bool, true, false, not, cond}
+use mathlib.Core.Bool.{true, false, not}
 use Prim.Native.Nat.{ℕ, zero, suc, ◌+◌, ◌*◌, ◌/◌, ◌%◌, ◌≤◌, ◌<◌}
 use native.Mathlib.Nat.{mod-lt, div-add-mod', zero-lt-suc}
 use native.Mathlib.Omega.{arith}
-use borrow.Author.Tests.{le-ltb, ltb-false, eqb-true, eqb-false, ne_eqb}
+use borrow.Author.Tests.{le-ltb, ltb-false, eqb-false, ne_eqb}
 use lib.Arith.{bin_ind}
 use lib.Bits.{bit_xor, differ, xor_step, xor_shr, xor_mod}
 use lib.Dec.{eqb, ltb}
 use Rattle.words.proofs.Tests.{by_test}
-use Rattle.tags.specs.Tag.{tag_of, pattern_of, pattern_word, state_word, free_pattern, allocated_pattern, is_free, is_allocated}
+use Rattle.tags.specs.Tag.{tag_of, pattern_of, pattern_word, state_word, is_free, is_allocated}
 use Rattle.tags.specs.SizeCode.{code_of, decoded_of}
 use Rattle.tags.specs.declared.tag.State.{State}
 use Rattle.tags.specs.declared.size_code.BadCode.{BadCode}
 use Rattle.tags.specs.declared.size_code.BadCode.TheVariants.{Remainder, Zero, Above}
-use Rattle.tags.specs.declared.size_code.Decoded.{Decoded}
-use Rattle.tags.specs.declared.size_code.Decoded.TheVariants.{Size, Bad}
 use Rattle.tags.specs.declared.tag.State.TheVariants as state
 use Rattle.tags.specs.declared.tag.Pattern.{Pattern}
 use Rattle.tags.specs.declared.tag.Pattern.TheVariants as pattern
@@ -66,25 +65,6 @@ tag_pattern a s = ap pattern_word (tag_word a s) ∙ known s
     known state.Free = refl
     known state.Allocated = refl
 
--- a word's pattern is the free one, or the allocated one, where the word is
-pub free_word : (x : ℕ) → eqb x free_pattern ≡ is_free (pattern_word x)
-unfolding pattern_word
-free_word x = go (eqb x free_pattern) (eqb x allocated_pattern)
-  where
-    go : (f a : Bool) → f ≡ is_free (cond f pattern.Free (cond a pattern.Allocated pattern.Neither))
-    go true a = refl
-    go false true = refl
-    go false false = refl
-
-pub allocated_word : (x : ℕ) → eqb x allocated_pattern ≡ is_allocated (pattern_word x)
-unfolding pattern_word
-allocated_word x = go (eqb x free_pattern) (eqb x allocated_pattern) (λ e. rw (eqb-true x free_pattern e))
-  where
-    go : (f a : Bool) → (f ≡ true → a ≡ false) → a ≡ is_allocated (cond f pattern.Free (cond a pattern.Allocated pattern.Neither))
-    go true a e = e refl
-    go false true e = refl
-    go false false e = refl
-
 -- the pattern that the two tests tell
 pub is_free_lem : (p : Pattern) → is_free p ≡ true → p ≡ pattern.Free
 is_free_lem pattern.Free e = refl
@@ -104,7 +84,7 @@ is_neither_lem pattern.Neither e f = refl
 -- ---- the size code
 
 -- a code gives its size back
-pub decode_code : (s most : ℕ) → 1 ≤ s → s ≤ most → decoded_of (code_of s) most ≡ Size s
+pub decode_code : (s most : ℕ) → 1 ≤ s → s ≤ most → decoded_of (code_of s) most ≡ Ok s
 unfolding decoded_of
 decode_code s most h k =
     let q : (251 * s + 1) / 251 ≡ s = omega arith in
@@ -112,7 +92,7 @@ decode_code s most h k =
     rw (q, r, ne_eqb s 0 (λ z. omega arith), le-ltb most s k)
 
 -- a decoded size is one of the buffer's
-pub decoded_within : (code most s : ℕ) → decoded_of code most ≡ Size s → (1 ≤ s) × (s ≤ most)
+pub decoded_within : (code most s : ℕ) → decoded_of code most ≡ Ok s → (1 ≤ s) × (s ≤ most)
 unfolding decoded_of
 decoded_within code most s e =
     by_test P (not (eqb (code % 251) 1)) (λ _. none Remainder)
@@ -124,8 +104,8 @@ decoded_within code most s e =
     (omega arith, omega (arith, ltb-false most (code / 251) few)))))
     e
   where
-    P : Decoded → Type 0
-    P d = d ≡ Size s → (1 ≤ s) × (s ≤ most)
+    P : Result ℕ BadCode → Type 0
+    P d = d ≡ Ok s → (1 ≤ s) × (s ≤ most)
 
-    none : (how : BadCode) → P (Bad how)
+    none : (how : BadCode) → P (Err how)
     none how f = absurd (let z : ◌≡◌ {A = ℕ} 0 1 = cc in omega arith)

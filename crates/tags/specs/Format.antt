@@ -1,6 +1,6 @@
 -- How an image writes its words, and by which rules it was made. Assumes nothing.
 use Rattle.std.specs.Prelude.{Bool, true, false, cond, List, ℕ}
-use Rattle.words.specs.Word.{bytes_of, number_at}
+use Rattle.words.specs.Word.{bytes_of, number_at, order_if}
 use Rattle.words.specs.declared.word.Order.{Order}
 use Rattle.words.specs.declared.word.Order.TheVariants.{HighFirst, LowFirst}
 use Rattle.tags.specs.declared.format.Format.{Format}
@@ -14,10 +14,6 @@ format_of p o = record { profile = p; order = o }
 -- U1 (userland, or kernel) by a truth value
 abbrev pub profile_if : Bool → Profile
 profile_if userland = cond userland Userland Kernel
-
--- W5 (low byte first, or high byte first) by a truth value
-abbrev pub order_if : Bool → Order
-order_if low = cond low LowFirst HighFirst
 
 abbrev pub format_if : Bool → Bool → Format
 format_if userland low = format_of (profile_if userland) (order_if low)

@@ -1,9 +1,7 @@
 -- The number and the detail of each refusal. Assumes nothing.
-use Rattle.std.specs.Prelude.{ℕ}
+use Rattle.std.specs.Prelude.{ℕ, Result, Ok}
 use Rattle.tags.specs.Verdict.{verdict_number}
 use Rattle.tags.specs.declared.refusal.Refusal.{Refusal}
-use Rattle.tags.specs.declared.refusal.Answer.{Answer}
-use Rattle.tags.specs.declared.refusal.Answer.TheVariants.{Value}
 use Rattle.tags.specs.declared.refusal.Refusal.TheVariants.{BadSheet, BadNumber, BadLength, NoSuchBuffer, NoRoom}
 use Rattle.tags.specs.declared.refusal.Refusal.TheVariants.{BadSize, Damage, BrokenHead, NotAllocated, OtherGrant}
 use Rattle.tags.specs.declared.refusal.Refusal.TheVariants.{PastClient, ShortOutput, WideStamp, NoThread}
@@ -43,5 +41,5 @@ refusal_detail WideStamp = 0
 refusal_detail NoThread = 0
 
 -- a call that was carried out and has nothing to tell
-abbrev pub done : Answer
-done = Value 0
+abbrev pub done : Result ℕ Refusal
+done = Ok 0

@@ -3,20 +3,22 @@ ghost use Rattle.std.specs.Prelude.{◌≡◌};
 ghost use Rattle.tags.specs.Ending.{ending_number};
 
 // How a chain ends: at 0, at a word that is no record's address, or at a record that it has met already.
-#[derive(Clone, Copy)]
+#[derive(Clone, Copy, Debug, PartialEq, Eq)]
 pub enum Ending {
     End,
     Broken,
     Again(usize),
 }
 
-// The number of a chain's ending.
-pub fn number(e: Ending) -> u32
-    ensures { result ≡ ending_number e }
-{
-    match e {
-        Ending::End => 0,
-        Ending::Broken => 1,
-        Ending::Again(_) => 2,
+impl Ending {
+    // The number of a chain's ending.
+    pub fn number(self) -> u32
+        ensures { result ≡ ending_number self }
+    {
+        match self {
+            Ending::End => 0,
+            Ending::Broken => 1,
+            Ending::Again(_) => 2,
+        }
     }
 }

@@ -1,40 +1,33 @@
 // How an image writes its words and its grants: by which rules it was made, and in which order the bytes of a word stand. It goes by
 // value to whatever reads or writes a chunk, a record or a row of the log; a sheet holds that of its image.
 ghost use Rattle.std.specs.Prelude.{◌≡◌};
-ghost use Rattle.tags.specs.Format.{profile_if, order_if, format_if, is_low};
+ghost use Rattle.tags.specs.Format.{profile_if, format_if, is_low};
 
 use words::word::Order;
 
 // Whose rules an image keeps: those of the kernel's allocator, or those of the one in userland. An image does not say it.
-#[derive(Clone, Copy)]
+#[derive(Clone, Copy, Debug, PartialEq, Eq)]
 pub enum Profile {
     Kernel,
     Userland,
 }
 
-#[derive(Clone, Copy)]
+#[derive(Clone, Copy, Debug, PartialEq, Eq)]
 pub struct Format {
     pub profile: Profile,
     pub order: Order,
 }
 
-// The profile and the order that a truth value stands for.
-pub fn profile_if(userland: bool) -> Profile
-    ensures { result ≡ profile_if userland }
-{
-    if userland {
-        return Profile::Userland;
-    }
-    Profile::Kernel
-}
+// The profile that a truth value stands for: whether it is userland's.
+impl From<bool> for Profile {
+    ghost from_gives = { λ userland p. p ≡ profile_if userland };
 
-pub fn order_if(low: bool) -> Order
-    ensures { result ≡ order_if low }
-{
-    if low {
-        return Order::LowFirst;
+    fn from(userland: bool) -> Profile {
+        if userland {
+            return Profile::Userland;
+        }
+        Profile::Kernel
     }
-    Order::HighFirst
 }
 
 impl Format {
@@ -43,8 +36,8 @@ impl Format {
         ensures { result ≡ format_if userland low }
     {
         Format {
-            profile: profile_if(userland),
-            order: order_if(low),
+            profile: Profile::from(userland),
+            order: Order::from(low),
         }
     }
 
@@ -52,10 +45,6 @@ impl Format {
     pub fn is_low(self) -> bool
         ensures { result ≡ is_low self }
     {
-        let o = self.order;
-        match o {
-            Order::HighFirst => false,
-            Order::LowFirst => true,
-        }
+        matches!(self.order, Order::LowFirst)
     }
 }

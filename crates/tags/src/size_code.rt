@@ -4,18 +4,11 @@ ghost use Rattle.tags.specs.SizeCode.{code_of, decoded_of};
 
 // How a word is no size code, in the order in which that is tested: its remainder is wrong; with a right one its size is zero, or
 // above the buffer's.
-#[derive(Clone, Copy)]
+#[derive(Clone, Copy, Debug, PartialEq, Eq)]
 pub enum BadCode {
     Remainder,
     Zero,
     Above,
-}
-
-// What a code says.
-#[derive(Clone, Copy)]
-pub enum Decoded {
-    Size(u32),
-    Bad(BadCode),
 }
 
 // The code of a size. No size of two bytes is too large for it.
@@ -28,18 +21,18 @@ pub fn encode(size: u16) -> u32
 // The size that a code stands for in a buffer of `most` bytes, or how it is bad. The remainder is tested: a division alone would take
 // a damaged code for a size.
 #[tactic(auto, unfolding(crate::specs::SizeCode::decoded_of))]
-pub fn decode(code: u32, most: u32) -> Decoded
+pub fn decode(code: u32, most: u32) -> Result<u32, BadCode>
     ensures { result ≡ decoded_of code most }
 {
     if code % 251 != 1 {
-        return Decoded::Bad(BadCode::Remainder);
+        return Err(BadCode::Remainder);
     }
     let size = code / 251;
     if size == 0 {
-        return Decoded::Bad(BadCode::Zero);
+        return Err(BadCode::Zero);
     }
     if most < size {
-        return Decoded::Bad(BadCode::Above);
+        return Err(BadCode::Above);
     }
-    Decoded::Size(size)
+    Ok(size)
 }

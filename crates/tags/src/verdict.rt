@@ -6,7 +6,7 @@ use crate::size_code::BadCode;
 
 // The rules' verdicts, in the order of their numbers; a bad size code has one of three, by how it is bad. A size is that of the
 // grant; an offset is that of the first byte that differs, from the buffer's start.
-#[derive(Clone, Copy)]
+#[derive(Clone, Copy, Debug, PartialEq, Eq)]
 pub enum Verdict {
     Free,
     Whole,
@@ -25,98 +25,96 @@ pub enum Verdict {
 }
 
 // A verdict as numbers: its own, and its size or offset, 0 where it carries none.
-#[derive(Clone, Copy)]
+#[derive(Clone, Copy, Debug, PartialEq, Eq)]
 pub struct Told {
     pub number: u32,
     pub value: u32,
 }
 
-// The number of the verdict on a bad size code.
-fn code_number(how: BadCode) -> u32
-    ensures { result ≡ code_number how }
-{
-    match how {
-        BadCode::Remainder => 27,
-        BadCode::Zero => 31,
-        BadCode::Above => 32,
+impl BadCode {
+    // The number of the verdict on a bad size code.
+    fn number(self) -> u32
+        ensures { result ≡ code_number self }
+    {
+        match self {
+            BadCode::Remainder => 27,
+            BadCode::Zero => 31,
+            BadCode::Above => 32,
+        }
     }
 }
 
-// The number of a verdict.
-pub fn number(v: Verdict) -> u32
-    ensures { result ≡ verdict_number v }
-{
-    match v {
-        Verdict::Free => 0,
-        Verdict::Whole => 1,
-        Verdict::Allocated(_) => 2,
-        Verdict::Cached => 3,
-        Verdict::NotOneRecord => 20,
-        Verdict::BadTag => 21,
-        Verdict::FreedTwice => 22,
-        Verdict::OffChain => 23,
-        Verdict::OnChain => 24,
-        Verdict::BadFill(_) => 25,
-        Verdict::BadRedzone(_) => 26,
-        Verdict::BadSizeCode(how) => code_number(how),
-        Verdict::Overrun(_) => 28,
-        Verdict::BadHeader => 30,
+impl Verdict {
+    // The number of a verdict.
+    pub fn number(self) -> u32
+        ensures { result ≡ verdict_number self }
+    {
+        match self {
+            Verdict::Free => 0,
+            Verdict::Whole => 1,
+            Verdict::Allocated(_) => 2,
+            Verdict::Cached => 3,
+            Verdict::NotOneRecord => 20,
+            Verdict::BadTag => 21,
+            Verdict::FreedTwice => 22,
+            Verdict::OffChain => 23,
+            Verdict::OnChain => 24,
+            Verdict::BadFill(_) => 25,
+            Verdict::BadRedzone(_) => 26,
+            Verdict::BadSizeCode(how) => how.number(),
+            Verdict::Overrun(_) => 28,
+            Verdict::BadHeader => 30,
+        }
     }
-}
 
-// The size or the offset that a verdict carries, 0 for one that carries none.
-pub fn value(v: Verdict) -> u32
-    ensures { result ≡ verdict_value v }
-{
-    match v {
-        Verdict::Allocated(size) => size,
-        Verdict::BadFill(offset) => offset,
-        Verdict::BadRedzone(offset) => offset,
-        Verdict::Overrun(offset) => offset,
-        Verdict::Free => 0,
-        Verdict::Whole => 0,
-        Verdict::Cached => 0,
-        Verdict::NotOneRecord => 0,
-        Verdict::BadTag => 0,
-        Verdict::FreedTwice => 0,
-        Verdict::OffChain => 0,
-        Verdict::OnChain => 0,
-        Verdict::BadSizeCode(_) => 0,
-        Verdict::BadHeader => 0,
+    // The size or the offset that a verdict carries, 0 for one that carries none.
+    pub fn value(self) -> u32
+        ensures { result ≡ verdict_value self }
+    {
+        match self {
+            Verdict::Allocated(size) => size,
+            Verdict::BadFill(offset) | Verdict::BadRedzone(offset) | Verdict::Overrun(offset) =>
+                offset,
+            _ => 0,
+        }
     }
 }
 
 // A verdict as numbers.
-pub fn tell(v: Verdict) -> Told
-    ensures { result ≡ told_of v }
-{
-    Told {
-        number: number(v),
-        value: value(v),
+impl From<Verdict> for Told {
+    ghost from_gives = { λ v t. t ≡ told_of v };
+
+    fn from(v: Verdict) -> Told {
+        Told {
+            number: v.number(),
+            value: v.value(),
+        }
     }
 }
 
 // The verdict that numbers tell.
-pub fn of(t: Told) -> Verdict
-    ensures { result ≡ of_told t }
-{
-    let n = t.number;
-    match n {
-        0 => Verdict::Free,
-        1 => Verdict::Whole,
-        2 => Verdict::Allocated(t.value),
-        3 => Verdict::Cached,
-        20 => Verdict::NotOneRecord,
-        21 => Verdict::BadTag,
-        22 => Verdict::FreedTwice,
-        23 => Verdict::OffChain,
-        24 => Verdict::OnChain,
-        25 => Verdict::BadFill(t.value),
-        26 => Verdict::BadRedzone(t.value),
-        27 => Verdict::BadSizeCode(BadCode::Remainder),
-        28 => Verdict::Overrun(t.value),
-        31 => Verdict::BadSizeCode(BadCode::Zero),
-        32 => Verdict::BadSizeCode(BadCode::Above),
-        _ => Verdict::BadHeader,
+impl From<Told> for Verdict {
+    ghost from_gives = { λ t v. v ≡ of_told t };
+
+    #[tactic(auto, unfolding(crate::specs::Verdict::of_told))]
+    fn from(t: Told) -> Verdict {
+        match t.number {
+            0 => Verdict::Free,
+            1 => Verdict::Whole,
+            2 => Verdict::Allocated(t.value),
+            3 => Verdict::Cached,
+            20 => Verdict::NotOneRecord,
+            21 => Verdict::BadTag,
+            22 => Verdict::FreedTwice,
+            23 => Verdict::OffChain,
+            24 => Verdict::OnChain,
+            25 => Verdict::BadFill(t.value),
+            26 => Verdict::BadRedzone(t.value),
+            27 => Verdict::BadSizeCode(BadCode::Remainder),
+            28 => Verdict::Overrun(t.value),
+            31 => Verdict::BadSizeCode(BadCode::Zero),
+            32 => Verdict::BadSizeCode(BadCode::Above),
+            _ => Verdict::BadHeader,
+        }
     }
 }

@@ -6,16 +6,14 @@ ghost use Rattle.runs.specs.Run.{repeated, difference};
 ghost use Rattle.timed.specs.Timed.{place_of, filled};
 
 use runs::run;
-use runs::run::Difference;
-use words::native;
 
 // The number that says where two runs differ.
-fn place(d: Difference) -> u64
+fn place(d: Option<usize>) -> u64
     ensures { result ≡ place_of d }
 {
     match d {
-        Difference::At(o) => o as u64,
-        Difference::Nowhere => 18446744073709551615,
+        Some(o) => o as u64,
+        None => u64::MAX,
     }
 }
 
@@ -24,7 +22,7 @@ pub fn timed_first_difference(s: &[u8], w: u32) -> u64
     ensures { result ≡ place_of (difference s.now
         (repeated (length s.now) (bytes_of HighFirst 4 w))) }
 {
-    place(run::first_difference(s, 0, s.len(), native::swap4(w)))
+    place(run::first_difference(s, 0, s.len(), w.to_be_bytes()))
 }
 
 // The same, byte by byte.
@@ -32,7 +30,7 @@ pub fn timed_difference_by_bytes(s: &[u8], w: u32) -> u64
     ensures { result ≡ place_of (difference s.now
         (repeated (length s.now) (bytes_of HighFirst 4 w))) }
 {
-    place(run::difference_by_bytes(s, 0, s.len(), native::swap4(w)))
+    place(run::difference_by_bytes(s, 0, s.len(), w.to_be_bytes()))
 }
 
 // The fill, where the length is a multiple of 8.
@@ -44,6 +42,6 @@ pub fn timed_fill(s: &mut [u8], w: u32) -> bool
     if len % 8 != 0 {
         return false;
     }
-    run::fill(s, 0, len, native::swap4(w));
+    run::fill(s, 0, len, w.to_be_bytes());
     true
 }

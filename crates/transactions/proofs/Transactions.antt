@@ -1,4 +1,5 @@
 -- The laws of the latest transaction: the row that is chosen is one of the log's, and its age is the smallest. Assumes nothing.
+use Rattle.std.specs.Prelude.{Option, Some, None}
 use mathlib.Core.Path.{◌≡◌, refl}
 use mathlib.Core.Bool.{Bool, true, false, ◌&&◌, cond}
 use mathlib.Core.List.{List}
@@ -9,11 +10,8 @@ use native.Mathlib.Omega.{arith}
 use borrow.Author.Count.{below_more}
 use borrow.Author.Tests.{leb-true, leb-false}
 use lib.Dec.{leb}
-use Rattle.transactions.specs.Latest.{row_names, row_age, considered, latest_row, first_best, ChosenAt, Smallest}
+use Rattle.transactions.specs.Latest.{Best, row_names, row_age, considered, latest_row, first_best, ChosenAt, Smallest}
 use Rattle.tags.specs.declared.format.Format.{Format}
-use Rattle.area.specs.declared.place.Place.{Place}
-use Rattle.area.specs.declared.place.Place.TheVariants.{At, Nowhere}
-use Rattle.transactions.specs.declared.latest.Best.{Best}
 
 module _ (f : Format) (log : List ℕ) (a time : ℕ) where
   pub latest_none : (b : Best) → latest_row f log a time b 0 ≡ b
@@ -25,14 +23,14 @@ module _ (f : Format) (log : List ℕ) (a time : ℕ) where
   latest_more b k = rw add-one
 
   -- a row that is chosen is one of those considered
-  pub row_below : (stamp n k : ℕ) → (latest_row f log a time (first_best stamp time) n).row ≡ At k → k < n
+  pub row_below : (stamp n k : ℕ) → (latest_row f log a time (first_best stamp time) n).row ≡ Some k → k < n
   unfolding latest_row considered
   row_below stamp zero k e = absurd (let z : ◌≡◌ {A = ℕ} 0 1 = cc in omega arith)
   row_below stamp (suc n) k e =
       go (row_names f log a n && leb (row_age f log time n) (latest_row f log a time (first_best stamp time) n).age) e (row_below stamp n k)
     where
-      go : (t : Bool) → (cond t (record { row = At n; age = row_age f log time n }) (latest_row f log a time (first_best stamp time) n)).row ≡ At k
-          → ((latest_row f log a time (first_best stamp time) n).row ≡ At k → k < n) → k < suc n
+      go : (t : Bool) → (cond t (record { row = Some n; age = row_age f log time n }) (latest_row f log a time (first_best stamp time) n)).row ≡ Some k
+          → ((latest_row f log a time (first_best stamp time) n).row ≡ Some k → k < n) → k < suc n
       go true q ih = let z : n ≡ k = cc in omega arith
       go false q ih = le_step (ih q)
 
@@ -48,7 +46,7 @@ module _ (f : Format) (log : List ℕ) (a time : ℕ) where
 
   -- a row that names the record and is not older takes the place
   smallest_taken : (stamp n : ℕ) (b : Best) → Smallest f log a time stamp n b → row_names f log a n ≡ true → row_age f log time n ≤ b.age
-      → Smallest f log a time stamp (suc n) (record { row = At n; age = row_age f log time n })
+      → Smallest f log a time stamp (suc n) (record { row = Some n; age = row_age f log time n })
   smallest_taken stamp n b s e l = record {
     record_older = let h = s.record_older in omega arith;
     rows_older = λ j k. below_more (λ i. row_names f log a i ≡ true → row_age f log time n ≤ row_age f log time i) n
@@ -66,14 +64,14 @@ module _ (f : Format) (log : List ℕ) (a time : ℕ) where
     chosen = stays b.row s.chosen;
   }
     where
-      stays : (p : Place) → ChosenAt f log a time stamp n p b.age → ChosenAt f log a time stamp (suc n) p b.age
-      stays (At m) c = (
+      stays : (p : Option ℕ) → ChosenAt f log a time stamp n p b.age → ChosenAt f log a time stamp (suc n) p b.age
+      stays (Some m) c = (
         le_step c.0,
         c.1,
         c.2,
         λ j k l. below_more (λ i. m < i → row_names f log a i ≡ true → b.age < row_age f log time i) n (λ i g h. c.3 i h g) (λ h. older) j (omega arith) k,
       )
-      stays Nowhere c = (c.0, λ j l. below_more (λ i. row_names f log a i ≡ true → b.age < row_age f log time i) n c.1 older j (omega arith))
+      stays None c = (c.0, λ j l. below_more (λ i. row_names f log a i ≡ true → b.age < row_age f log time i) n c.1 older j (omega arith))
 
   pub latest_smallest : (stamp n : ℕ) → Smallest f log a time stamp n (latest_row f log a time (first_best stamp time) n)
   unfolding latest_row considered
@@ -83,7 +81,7 @@ module _ (f : Format) (log : List ℕ) (a time : ℕ) where
       go b (row_names f log a n) (leb (row_age f log time n) b.age) refl refl (latest_smallest stamp n)
     where
       go : (b : Best) (t u : Bool) → row_names f log a n ≡ t → leb (row_age f log time n) b.age ≡ u → Smallest f log a time stamp n b
-          → Smallest f log a time stamp (suc n) (cond (t && u) (record { row = At n; age = row_age f log time n }) b)
+          → Smallest f log a time stamp (suc n) (cond (t && u) (record { row = Some n; age = row_age f log time n }) b)
       go b true true e q s = smallest_taken stamp n b s e (leb-true (row_age f log time n) b.age q)
       go b true false e q s = smallest_kept stamp n b s (λ g. leb-false (row_age f log time n) b.age q)
       go b false u e q s = smallest_kept stamp n b s (λ g. absurd (let z : ◌≡◌ {A = ℕ} 0 1 = cc in omega arith))

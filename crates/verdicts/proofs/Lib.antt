@@ -1,3 +1,4 @@
+pub mod MarkedImages
 pub mod Tagged
 pub mod Rows
 pub mod Standings

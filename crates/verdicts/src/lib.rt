@@ -6,3 +6,6 @@
 
 // The verdict on a buffer.
 pub mod judge;
+
+// An image whose records and buffers are marked, and the verdicts on its buffers.
+pub mod marked;

@@ -1,10 +1,7 @@
--- The laws of numbers in bytes with the lowest first, and what loads and stores come to, each stated once over the width. Assumes nothing.
-use Rattle.std.proofs.Common.{◌≡◌, ℕ, zero, suc, ◌+◌, ◌*◌, ◌/◌, ◌%◌, ◌^◌, ◌<◌, ◌≤◌, List, ◌++◌, length, get_or, set, sym, refl, ap, ◌∙◌, mod-lt, mod-eq_of_lt, suc-add, div-add-mod', zero-add, mul_left_comm, arith, lit<}
+-- The laws of numbers in bytes with the lowest first, each stated once over the width. Assumes nothing.
+use Rattle.std.proofs.Common.{◌≡◌, ℕ, zero, suc, ◌+◌, ◌*◌, ◌/◌, ◌%◌, ◌^◌, ◌<◌, ◌++◌, length, set, sym, refl, ap, ◌∙◌, mod-lt, suc-add, div-add-mod', zero-add, mul_left_comm, arith, lit<}
 use native.Mathlib.Nat.{pow-succ', one-le-pow}
-use lib.Seq.{sets}
-use Rattle.words.specs.Word.{part}
 use Rattle.words.specs.Native.{low_number, low_bytes}
-use Rattle.words.proofs.Parts.{part_none, part_cons, part_two, sets_then}
 
 pub length_low : (k v : ℕ) → length (low_bytes k v) ≡ k
 unfolding low_bytes
@@ -45,23 +42,3 @@ low_first k v b r h e =
     let m : r % 256 ≡ b = omega arith in
     let q : r / 256 ≡ v / 256 = omega arith in
     rw (m, q)
-
--- one byte is loaded, and two halves are
-pub loaded_one : (l : List ℕ) (at : ℕ) → at + 1 ≤ length l → get_or l at 0 < 256 → low_bytes 1 (get_or l at 0) ≡ part l at 1
-unfolding low_bytes
-loaded_one l at h b = rw (part_cons l at 0 (omega arith), part_none l (at + 1), mod-eq_of_lt b)
-
-pub loaded : (j k : ℕ) (l : List ℕ) (at x y r : ℕ) → low_bytes j x ≡ part l at j → low_bytes k y ≡ part l (at + j) k
-    → low_bytes (j + k) r ≡ low_bytes j x ++ low_bytes k y → low_bytes (j + k) r ≡ part l at (j + k)
-loaded j k l at x y r ex ey er = er ∙ rw (ex, ey) (part_two l at j k)
-
--- one byte is stored, and two halves are
-pub stored_one : (l : List ℕ) (at v : ℕ) → v < 256 → set l at v ≡ sets l at (low_bytes 1 v)
-unfolding low_bytes
-stored_one l at v h = rw (mod-eq_of_lt h)
-
-pub stored : (j k : ℕ) (l a b : List ℕ) (at v : ℕ) → a ≡ sets l at (low_bytes j (v % 256 ^ j)) → b ≡ sets a (at + j) (low_bytes k (v / 256 ^ j))
-    → b ≡ sets l at (low_bytes (j + k) v)
-stored j k l a b at v ea eb =
-    rw (eb, ea, ← low_halves j k v)
-    (sets_then l at j (at + j) (low_bytes j (v % 256 ^ j)) (low_bytes k (v / 256 ^ j)) (length_low j (v % 256 ^ j)) refl)

@@ -1,7 +1,7 @@
 -- The laws of numbers in bytes, each stated once over the width and the order. Three of them (`bytes_turned`, `turned_twice`, `length-turned`) go by cases on
--- the order, and those that say what a swap comes to name it. Assumes nothing.
-use Rattle.std.proofs.Common.{◌≡◌, ℕ, zero, suc, ◌+◌, ◌*◌, ◌/◌, ◌%◌, ◌^◌, ◌<◌, ◌≤◌, ◌⊎◌, List, [], ◌∷◌, ◌++◌, reverse, length, get_or, set, sym, refl, ap, ◌∙◌, arith}
-use mathlib.Core.List.{reverse-cons, reverse-append, reverse-reverse}
+-- the order, and `turned_low` names it. Assumes nothing.
+use Rattle.std.proofs.Common.{◌≡◌, ℕ, zero, suc, ◌+◌, ◌*◌, ◌/◌, ◌%◌, ◌^◌, ◌<◌, ◌≤◌, ◌⊎◌, List, [], ◌∷◌, ◌++◌, reverse, length, get_or, refl, ap, ◌∙◌, arith}
+use mathlib.Core.List.{reverse-cons, reverse-reverse}
 use lib.ListN.{length-reverse}
 use lib.Seq.{sets}
 use Rattle.words.specs.Word.{part, turned, number, bytes_of, number_at}
@@ -9,7 +9,7 @@ use Rattle.words.specs.Native.{low_number, low_bytes}
 use Rattle.words.specs.declared.word.Order.{Order}
 use Rattle.words.specs.declared.word.Order.TheVariants.{HighFirst, LowFirst}
 use Rattle.words.proofs.Parts.{length_part, part_none, part_cons, part_written, part_outside}
-use Rattle.words.proofs.Loads.{length_low, low_back, low_halves, loaded_one, stored_one}
+use Rattle.words.proofs.Loads.{length_low, low_back}
 
 -- ---- bytes, the lowest first
 
@@ -91,41 +91,7 @@ pub number_at_again : (o p : Order) (k : ℕ) (l : List ℕ) (at : ℕ) → at +
 unfolding number_at
 number_at_again o p k l at h f = ap (number o) (bytes_of_number p k (part l at k) (length_part l at k h) (bytes_part k l at h f))
 
--- a number that was loaded and turned is the number of the bytes in the order
-pub read_turned : (o : Order) (k : ℕ) (l : List ℕ) (at x r : ℕ) → r < 256 ^ k → low_bytes k x ≡ part l at k → low_bytes k r ≡ bytes_of o k x
-    → r ≡ number_at o k l at
-unfolding number_at number bytes_of
-read_turned o k l at x r h ex er = sym (low_back k r h) ∙ ap low_number (er ∙ ap (turned o) ex)
-
--- ---- what the steps of the code come to in one order
-
--- a number is turned where its order is not the machine's
+-- the low order's bytes are those with the lowest first
 pub turned_low : (k v : ℕ) → low_bytes k v ≡ bytes_of LowFirst k v
 unfolding bytes_of turned
 turned_low k v = refl
-
--- one byte is swapped, and two halves are
-pub swapped_one : (v : ℕ) → low_bytes 1 v ≡ bytes_of HighFirst 1 v
-unfolding bytes_of turned low_bytes
-swapped_one v = refl
-
-pub swapped : (j k v x y r : ℕ) → low_bytes k y ≡ bytes_of HighFirst k (v / 256 ^ j) → low_bytes j x ≡ bytes_of HighFirst j (v % 256 ^ j)
-    → low_bytes (k + j) r ≡ low_bytes k y ++ low_bytes j x → low_bytes (k + j) r ≡ bytes_of HighFirst (j + k) v
-unfolding bytes_of turned
-swapped j k v x y r ey ex er =
-    er ∙ rw (ey, ex) (sym (ap reverse (sym (low_halves j k v)) ∙ reverse-append (low_bytes j (v % 256 ^ j)) (low_bytes k (v / 256 ^ j))))
-
--- a number is reordered where its order is not the high one
-pub reordered_high : (k v : ℕ) → v < 256 ^ k → v ≡ number HighFirst (bytes_of HighFirst k v)
-reordered_high k v h = sym (number_back HighFirst k v h)
-
-pub reordered_low : (k v r : ℕ) → r < 256 ^ k → low_bytes k r ≡ bytes_of HighFirst k v → r ≡ number LowFirst (bytes_of HighFirst k v)
-unfolding number turned
-reordered_low k v r h e = sym (low_back k r h) ∙ ap low_number e
-
--- one byte is read, and written
-pub one_read : (l : List ℕ) (at : ℕ) → at + 1 ≤ length l → get_or l at 0 < 256 → get_or l at 0 ≡ number_at HighFirst 1 l at
-one_read l at h b = read_turned HighFirst 1 l at (get_or l at 0) (get_or l at 0) b (loaded_one l at h b) (swapped_one (get_or l at 0))
-
-pub one_store : (l : List ℕ) (at v : ℕ) → v < 256 → set l at v ≡ sets l at (bytes_of HighFirst 1 v)
-one_store l at v h = stored_one l at v h ∙ ap (sets l at) (swapped_one v)

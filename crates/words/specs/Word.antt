@@ -1,5 +1,5 @@
 -- Parts of a list of bytes, and numbers in bytes, in either order. Assumes nothing.
-use Rattle.std.specs.Prelude.{ℕ, zero, suc, List, [], ◌++◌, reverse, take, drop}
+use Rattle.std.specs.Prelude.{ℕ, zero, suc, Bool, cond, List, [], ◌++◌, reverse, take, drop}
 use Rattle.words.specs.Native.{low_number, low_bytes}
 use Rattle.words.specs.declared.word.Order.{Order}
 use Rattle.words.specs.declared.word.Order.TheVariants.{HighFirst, LowFirst}
@@ -12,6 +12,10 @@ part l at len = take len (drop at l)
 unfoldable pub flat : ℕ → (ℕ → List ℕ) → List ℕ
 flat zero f = []
 flat (suc n) f = flat n f ++ f n
+
+-- W1 (the order of a number's bytes, by whether the lowest comes first)
+abbrev pub order_if : Bool → Order
+order_if low = cond low LowFirst HighFirst
 
 -- W1 (the order of a number's bytes): `turned`, and nothing else, says which byte of a number comes first. It makes bytes in an order of bytes with the
 -- lowest first, and these of those.

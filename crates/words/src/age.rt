@@ -4,8 +4,9 @@ ghost use Rattle.std.specs.Prelude.{◌≡◌};
 ghost use Rattle.words.specs.Age.{age_of};
 
 // The age of a stamp at a time.
+#[tactic(auto, unfolding(crate::specs::Age::age_of))]
 pub fn age(time: u32, stamp: u32) -> u32
     ensures { result ≡ age_of 32 time stamp }
 {
-    std::num::wrapping_sub_u32(time, stamp)
+    time.wrapping_sub(stamp)
 }

@@ -2,12 +2,9 @@
 //
 // The crate promises: a number read is the number of the bytes at its offset in an order; a write changes the bytes of its
 // number and no others; an age is a difference modulo 2^32. Which byte comes first stands in `turned` of specs/Word.antt, and
-// in the code in `turn4`, `turn8` and `reordered` of `word`, over the swaps of `native`. The other half of the layer of words,
-// runs of bytes, is the crate `runs`.
+// in the code in the methods of `Order`, by std's conversions. The other half of the layer of words, runs of bytes, is the crate
+// `runs`.
 #![tactic(auto)]
-
-// Numbers as the machine loads and stores them.
-pub mod native;
 
 // Numbers of one, two, four and eight bytes.
 pub mod word;

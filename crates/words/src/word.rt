@@ -1,47 +1,103 @@
-// Numbers of one, two, four and eight bytes in a slice. They are loaded and stored as the machine has them, and turned where the
-// order is not the machine's: so a read is one load and one swap before the compiler looks at the function that it stands in.
+// Numbers of one, two, four and eight bytes in a slice. A read is one load and a write one store, with one swap where the order
+// asks for it.
+#![tactic(auto, using(crate::proofs::Std::conversions))]
+
 ghost use Rattle.std.specs.Prelude.{◌≡◌, ◌+◌, ◌≤◌, length};
 ghost use Rattle.std.proofs.lemmas.List.Edits.{sets};
-ghost use Rattle.words.specs.Native.{low_bytes};
-ghost use Rattle.words.specs.Word.{number, number_at, bytes_of};
+ghost use Rattle.words.specs.Word.{number, number_at, bytes_of, order_if};
 ghost use Rattle.words.specs.declared.word.Order.TheVariants.{HighFirst};
 
-use crate::native;
-
 // Which byte of a number comes first.
-#[derive(Clone, Copy)]
+#[derive(Clone, Copy, Debug, PartialEq, Eq)]
 pub enum Order {
     HighFirst,
     LowFirst,
 }
 
-// The number whose bytes, the lowest first, are those of another in an order.
-pub fn turn4(o: Order, v: u32) -> u32
-    ensures { low_bytes 4 result ≡ bytes_of o 4 v }
-{
-    match o {
-        Order::HighFirst => native::swap4(v),
-        Order::LowFirst => v,
+// True says that the lowest byte comes first.
+impl From<bool> for Order {
+    ghost from_gives = { λ low o. o ≡ order_if low };
+
+    fn from(low: bool) -> Order {
+        if low {
+            Order::LowFirst
+        } else {
+            Order::HighFirst
+        }
     }
 }
 
-fn turn8(o: Order, v: u64) -> u64
-    ensures { low_bytes 8 result ≡ bytes_of o 8 v }
-{
-    match o {
-        Order::HighFirst => native::swap8(v),
-        Order::LowFirst => v,
+impl Order {
+    // The number of the four bytes from an offset on.
+    pub fn read_u32(self, s: &[u8], at: usize) -> u32
+        requires { at + 4 ≤ length s.now }
+        ensures { result ≡ number_at self 4 s.now at }
+    {
+        let bytes = [s[at], s[at + 1], s[at + 2], s[at + 3]];
+        match self {
+            Order::HighFirst => u32::from_be_bytes(bytes),
+            Order::LowFirst => u32::from_le_bytes(bytes),
+        }
     }
-}
 
-// The number in an order of the bytes of which another is the number with the highest first: for a word that was read by code that
-// knows no order.
-pub fn reordered(o: Order, v: u32) -> u32
-    ensures { result ≡ number o (bytes_of HighFirst 4 v) }
-{
-    match o {
-        Order::HighFirst => v,
-        Order::LowFirst => native::swap4(v),
+    // The number of the eight bytes from an offset on.
+    pub fn read_u64(self, s: &[u8], at: usize) -> u64
+        requires { at + 8 ≤ length s.now }
+        ensures { result ≡ number_at self 8 s.now at }
+    {
+        let bytes = [
+            s[at],
+            s[at + 1],
+            s[at + 2],
+            s[at + 3],
+            s[at + 4],
+            s[at + 5],
+            s[at + 6],
+            s[at + 7],
+        ];
+        match self {
+            Order::HighFirst => u64::from_be_bytes(bytes),
+            Order::LowFirst => u64::from_le_bytes(bytes),
+        }
+    }
+
+    // The number in this order of the bytes of which another is the number with the highest first: for a word that was read by code
+    // that knows no order.
+    pub fn reordered(self, v: u32) -> u32
+        ensures { result ≡ number self (bytes_of HighFirst 4 v) }
+    {
+        match self {
+            Order::HighFirst => v,
+            Order::LowFirst => v.swap_bytes(),
+        }
+    }
+
+    // The four bytes of a number. The order chooses between two numbers, here and in `write_u64`, and not between two arrays, which the
+    // compiler would put together again byte by byte.
+    pub fn bytes(self, v: u32) -> [u8; 4]
+        ensures { result ≡ bytes_of self 4 v }
+    {
+        self.reordered(v).to_be_bytes()
+    }
+
+    // Writes the four bytes of a number from an offset on.
+    pub fn write_u32(self, s: &mut [u8], at: usize, v: u32)
+        requires { at + 4 ≤ length s.old }
+        ensures { s.new ≡ sets s.old at (bytes_of self 4 v) }
+    {
+        s[at..at + 4].copy_from_slice(&self.bytes(v));
+    }
+
+    // Writes the eight bytes of a number from an offset on.
+    pub fn write_u64(self, s: &mut [u8], at: usize, v: u64)
+        requires { at + 8 ≤ length s.old }
+        ensures { s.new ≡ sets s.old at (bytes_of self 8 v) }
+    {
+        let low_first = match self {
+            Order::HighFirst => v.swap_bytes(),
+            Order::LowFirst => v,
+        };
+        s[at..at + 8].copy_from_slice(&low_first.to_le_bytes());
     }
 }
 
@@ -58,23 +114,7 @@ pub fn read_u16(s: &[u8], at: usize) -> u16
     requires { at + 2 ≤ length s.now }
     ensures { result ≡ number_at HighFirst 2 s.now at }
 {
-    native::swap2(native::load2(s, at))
-}
-
-// The number of the four bytes from an offset on.
-pub fn read_u32(o: Order, s: &[u8], at: usize) -> u32
-    requires { at + 4 ≤ length s.now }
-    ensures { result ≡ number_at o 4 s.now at }
-{
-    turn4(o, native::load4(s, at))
-}
-
-// The number of the eight bytes from an offset on.
-pub fn read_u64(o: Order, s: &[u8], at: usize) -> u64
-    requires { at + 8 ≤ length s.now }
-    ensures { result ≡ number_at o 8 s.now at }
-{
-    turn8(o, native::load8(s, at))
+    u16::from_be_bytes([s[at], s[at + 1]])
 }
 
 // Writes one byte at an offset.
@@ -90,21 +130,5 @@ pub fn write_u16(s: &mut [u8], at: usize, v: u16)
     requires { at + 2 ≤ length s.old }
     ensures { s.new ≡ sets s.old at (bytes_of HighFirst 2 v) }
 {
-    native::store2(s, at, native::swap2(v));
-}
-
-// Writes the four bytes of a number from an offset on.
-pub fn write_u32(o: Order, s: &mut [u8], at: usize, v: u32)
-    requires { at + 4 ≤ length s.old }
-    ensures { s.new ≡ sets s.old at (bytes_of o 4 v) }
-{
-    native::store4(s, at, turn4(o, v));
-}
-
-// Writes the eight bytes of a number from an offset on.
-pub fn write_u64(o: Order, s: &mut [u8], at: usize, v: u64)
-    requires { at + 8 ≤ length s.old }
-    ensures { s.new ≡ sets s.old at (bytes_of o 8 v) }
-{
-    native::store8(s, at, turn8(o, v));
+    s[at..at + 2].copy_from_slice(&v.to_be_bytes());
 }

@@ -2,7 +2,7 @@
 use mathlib.Core.Path.{sym, ◌∙◌}
 use native.Mathlib.Omega.{arith}
 use Rattle.geometry.proofs.Sheets.{sizes_known, records-small}
-use Rattle.geometry.specs.Limits.{lawful, SizesOf}
+use Rattle.geometry.specs.Limits.{SizesOf}
 use Rattle.lawful.proofs.is_lawful.Goals.{Then-sizes_lawful}
 use Rattle.lawful.proofs.is_lawful.Goals as goal
 
@@ -10,25 +10,13 @@ use Rattle.lawful.proofs.is_lawful.Goals as goal
 sized : (c : Then-sizes_lawful) → SizesOf c.args.g
 sized c = sizes_known _ _ _ _ (sym c.sizes_lawful.ensures ∙ c.if-sizes_lawful.true)
 
+pub heap_length-requires : goal.heap_length-requires
+heap_length-requires c = sized (goal.at.heap_length-requires c).Then-sizes_lawful
+
+pub records_length-requires : goal.records_length-requires
+records_length-requires c = sized (goal.at.records_length-requires c).Then-sizes_lawful
+
 pub bases_lawful-requires : goal.bases_lawful-requires
 bases_lawful-requires c =
     let k = sized (goal.at.bases_lawful-requires c).Then-sizes_lawful in
     omega (arith, records-small c.args.g k)
-
-pub returns-then-sizes_lawful : goal.returns-then-sizes_lawful
-unfolding lawful
-returns-then-sizes_lawful c =
-    rw (← c.sizes_lawful.ensures, c.if-sizes_lawful.true, ← c.heap_length.ensures, ← c.records_length.ensures)
-    c.bases_lawful.ensures
-
-pub heap_length-requires : goal.heap_length-requires
-unfolding lawful
-heap_length-requires c = sized (goal.at.heap_length-requires c).Then-sizes_lawful
-
-pub records_length-requires : goal.records_length-requires
-unfolding lawful
-records_length-requires c = sized (goal.at.records_length-requires c).Then-sizes_lawful
-
-pub returns : goal.returns
-unfolding lawful
-returns c = rw (← c.sizes_lawful.ensures, c.if-sizes_lawful.false)

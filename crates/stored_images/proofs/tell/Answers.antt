@@ -1,13 +1,20 @@
 -- A report that was written fits the space for its text. Assumes nothing.
+use Rattle.std.specs.Prelude.{Result}
 use Rattle.std.proofs.Common.{ℕ}
 use native.Mathlib.Omega.{arith}
 use mathlib.Core.Path.{sym, ap, ◌∙◌}
+use lib.Seq.{length-take-le}
 use Rattle.tags.specs.Filling.{Filling}
-use Rattle.tags.specs.declared.refusal.Answer.{Answer}
+use Rattle.tags.specs.declared.refusal.Refusal.{Refusal}
 use Rattle.report.proofs.Reports.{report_fits}
 use Rattle.stored_images.proofs.tell.Goals as goal
 
-pub write_out-requires : goal.write_out-requires
-write_out-requires g c =
-    let k = report_fits _ _ _ _ _ _ (ap (λ (x : Filling Answer ℕ). x.answer) (sym c.report-told.ensures) ∙ c.in-Value.is) in
-    omega (arith, k, c.report-told.auto.output)
+pub slice_bounds-text-end : goal.slice_bounds-text-end
+slice_bounds-text-end g c =
+    let k = report_fits _ _ _ _ _ _ (ap (λ (x : Filling (Result ℕ Refusal) ℕ). x.answer) (sym c.report.ensures) ∙ c.in-Ok.is) in
+    omega (arith, k, c.report.auto.output)
+
+pub slice_bounds-write_all-end : goal.slice_bounds-write_all-end
+slice_bounds-write_all-end g c =
+    let k = report_fits _ _ _ _ _ _ (ap (λ (x : Filling (Result ℕ Refusal) ℕ). x.answer) (sym c.report.ensures) ∙ c.in-Ok.is) in
+    sym (length-take-le _ c.report.new.output (omega (arith, k, c.report.auto.output)))

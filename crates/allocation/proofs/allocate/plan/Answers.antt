@@ -1,23 +1,18 @@
--- The image is opened, then the thread is tested, and then the request and the head decide. Assumes nothing.
-use mathlib.Core.Path.{sym, ◌∙◌}
-use borrow.Author.Tests.{eq-eqb, ne_eqb}
-use Rattle.sheet.proofs.Opens.{opened_known}
+-- What is taken in an open image lies in its areas. Assumes nothing.
+use mathlib.Core.Path.{◌≡◌, sym, ap, ◌∙◌}
+use borrow.Author.Tests.{ne_eqb}
+use Rattle.std.specs.Prelude.{Ok}
+use Rattle.sheet.specs.Areas.{opening}
+use Rattle.sheet.specs.Lent.{seen, sheet_open}
 use Rattle.allocation.specs.Allocate.{allocate_plan}
+use Rattle.allocation.proofs.Takings.{taken_if}
 use Rattle.allocation.proofs.allocate.plan.Goals as goal
 
-pub returns-then-thread-eq0 : goal.returns-then-thread-eq0
+pub returns-clause-within : goal.returns-clause-within
 unfolding allocate_plan
-returns-then-thread-eq0 c = rw (← c.open-opened.ensures, c.in-Sheet.is, eq-eqb _ _ c.if-thread-eq0.true)
-
-pub take-requires : goal.take-requires
-unfolding allocate_plan
-take-requires c = (opened_known _ _ _ _ _ (sym c.open-opened.ensures ∙ c.in-Sheet.is)).opens
-
-pub returns-in-Refused : goal.returns-in-Refused
-unfolding allocate_plan
-returns-in-Refused c = rw (← c.open-opened.ensures, c.in-Refused.is)
-
-pub returns-else-thread-eq0 : goal.returns-else-thread-eq0
-unfolding allocate_plan
-returns-else-thread-eq0 c =
-    rw (← c.open-opened.ensures, c.in-Sheet.is, ne_eqb _ _ c.if-thread-eq0.false) c.take.ensures
+returns-clause-within c =
+    let t = taken_if c.args.profile (seen c.args.image.now) c.args.grant c.args.thread in
+    let o : opening c.args.profile (seen c.args.image.now) ≡ Ok c.in_ok-image.image.sheet
+    = sym c.open_image.ensures.sheet ∙ ap sheet_open c.in_ok-image.was in
+    let u = simp (o, ne_eqb _ _ c.if-thread-eq0.false) at t in
+    simp (c.take.ensures, c.in_ok-image.ensures.areas.0, c.in_ok-image.ensures.areas.1) u

@@ -3,13 +3,16 @@ use mathlib.Core.Path.{sym}
 use Prim.Native.Nat.{◌-◌, ◌/◌}
 use native.Mathlib.Omega.{arith}
 use Rattle.area.proofs.Places.{place-flat, place_none, place_at, address_of, address_multiple, address_quotient}
+use Rattle.area.proofs.place.find.Goals.{then-stride-eq0-via-then-stride-eq0, then-stride-eq0-via-else-stride-eq0+then-word-base}
 use Rattle.area.proofs.place.find.Goals as goal
 
 pub returns-then-stride-eq0 : goal.returns-then-stride-eq0
-returns-then-stride-eq0 c = sym (place-flat c.args.base c.args.stride c.args.count c.args.word c.if-stride-eq0.true)
-
-pub returns-then-word-base : goal.returns-then-word-base
-returns-then-word-base c = sym (place_none c.args.base c.args.stride c.args.count c.args.word (λ i l e. omega arith))
+returns-then-stride-eq0 c =
+    elim c.then-stride-eq0.branch [
+      | then-stride-eq0-via-then-stride-eq0 w ↦ sym (place-flat c.args.base c.args.stride c.args.count c.args.word w.if-stride-eq0.true)
+      | then-stride-eq0-via-else-stride-eq0+then-word-base w ↦
+          sym (place_none c.args.base c.args.stride c.args.count c.args.word (λ i l e. omega arith))
+    ]
 
 pub returns-then-off-stride-ne0 : goal.returns-then-off-stride-ne0
 returns-then-off-stride-ne0 c =

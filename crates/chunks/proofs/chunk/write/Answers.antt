@@ -5,6 +5,6 @@ use Rattle.chunks.proofs.chunk.write.Goals as goal
 
 pub returns : goal.returns
 returns c =
-    rw (← c.turn4.ensures)
+    rw (← c.bytes.ensures)
     (laid _ _ _ _ _ _ _ _ _ _ _ _ (omega arith) c.fill.ensures c.write_u32.ensures c.write_u32-2.ensures c.write_u32-3.ensures
     c.write_u32-4.ensures)

@@ -3,14 +3,6 @@ use native.Mathlib.Omega.{arith}
 use Rattle.places.proofs.Chunks.{inside, small, lent_is}
 use Rattle.places.proofs.heap.chunk.Goals as goal
 
-pub overflow_add-end : goal.overflow_add-end
-overflow_add-end c =
-    omega (
-      arith,
-      small c.args.g c.args.i c.chunk_place-at.result
-          c.requires.lawful c.requires.i_lt_count c.chunk_place-at.ensures,
-    )
-
 pub slice_bounds-result-end : goal.slice_bounds-result-end
 slice_bounds-result-end c =
     omega (

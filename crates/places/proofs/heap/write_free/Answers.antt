@@ -17,14 +17,6 @@ returns c =
     chunk_back _ _ _ _ c.requires.lawful c.requires.heap_len c.requires.i_lt_count c.chunk_place-at.ensures (λ (n : ℕ). free_chunk f n a) _
     (λ n. length-free_chunk f n a) c.write_free.ensures
 
-pub overflow_add-end : goal.overflow_add-end
-overflow_add-end c =
-    omega (
-      arith,
-      small c.args.g c.args.i c.chunk_place-at.result
-          c.requires.lawful c.requires.i_lt_count c.chunk_place-at.ensures,
-    )
-
 pub slice_bounds-write_free-end : goal.slice_bounds-write_free-end
 slice_bounds-write_free-end c =
     omega (

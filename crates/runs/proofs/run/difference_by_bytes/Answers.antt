@@ -1,24 +1,27 @@
 -- The loop's invariant: no byte before i differs. Assumes nothing.
-use mathlib.Core.List.{List}
-use mathlib.Core.Path.{sym, ap, ◌∙◌, ◌≡◌}
-use Prim.Native.Nat.{ℕ, ◌%◌}
-use native.Mathlib.Omega.{arith}
-use borrow.Author.Count.{below_more}
-use borrow.Author.Rules.{rules}
-use lib.ListN.{get_or}
-use Rattle.runs.proofs.Runs.{run_differs, run-same}
+use Rattle.std.proofs.Common.{◌∙◌, sym, arith}
+use Rattle.words.specs.Word.{part}
+use Rattle.words.proofs.Parts.{part-lent, length_part}
+use Rattle.runs.proofs.Runs.{length-repeated, get_or_repeated, differs_here, differs_later_on, differs_nowhere}
 use Rattle.runs.proofs.run.difference_by_bytes.Goals as goal
 
-pub returns-then-s-at : goal.returns-then-s-at
-returns-then-s-at c =
-    sym (run_differs _ _ _ _ (omega arith) _ (omega arith) c.loop-i.invariant.2
-    (λ e. c.if-s-at.true (e ∙ ap (λ (x : List ℕ). get_or x (c.loop-i.i % 4) 0) (sym c.loop-i.invariant.0))))
+pub returns-then-b-w : goal.returns-then-b-w
+returns-then-b-w c =
+    let k = length_part c.args.s.now c.args.at c.args.len (omega arith) in
+    let n = length-repeated c.args.len c.args.w in
+    let l = rw part-lent at c.loop-i-test.true in
+    let ne = rw part-lent at c.if-b-w.true in
+    sym (differs_here _ _ _ l (omega arith) (λ e. ne (e ∙ get_or_repeated _ _ _ (omega arith)))) ∙ c.loop-i.invariant
 
 pub loop-i-preserved : goal.loop-i-preserved
 loop-i-preserved c =
-    (search rules, search rules, below_more _ _ c.loop-i.invariant.2 (c.if-s-at.false ∙ ap (λ (x : List ℕ). get_or x (c.loop-i.i % 4) 0) c.loop-i.invariant.0))
+    let k = length_part c.args.s.now c.args.at c.args.len (omega arith) in
+    let n = length-repeated c.args.len c.args.w in
+    let l = rw part-lent at c.loop-i-test.true in
+    let e = rw part-lent at c.if-b-w.false in
+    sym (differs_later_on _ _ _ l (omega arith) (e ∙ sym (get_or_repeated _ _ _ (omega arith)))) ∙ c.loop-i.invariant
 
 pub returns : goal.returns
 returns c =
-    let e : c.loop-i.i ≡ c.args.len = omega arith in
-    sym (run-same _ _ _ _ (omega arith) (λ k h. c.loop-i.invariant.2 k (omega arith)))
+    let l = rw part-lent at c.loop-i-test.false in
+    sym (differs_nowhere (part c.args.s.now c.args.at c.args.len) _ c.loop-i.i l) ∙ c.loop-i.invariant

@@ -1,29 +1,26 @@
 -- The run differs in its first eight bytes or in its whole eights, or these are alike and what differs is the rest. Assumes nothing.
-use mathlib.Core.Path.{refl}
-use native.Mathlib.Omega.{arith}
-use Rattle.runs.proofs.Runs.{run_front, front_same, run_behind, run-within}
+use Rattle.std.proofs.Common.{◌-◌, ◌*◌, ◌/◌, ◌∙◌, arith}
+use Rattle.runs.proofs.Runs.{run_front, run_behind, run-within}
 use Rattle.runs.proofs.run.long_difference.Goals as goal
 
-pub returns-in-At : goal.returns-in-At
-returns-in-At c =
-    run_front _ _ _ _ (omega arith) 8 _ _ (omega arith) c.two_words_difference-head.ensures refl _ refl c.in-At.is
+pub returns-in-Some : goal.returns-in-Some
+returns-in-Some c = run_front _ _ 8 (c.args.len - 8) _ _ (omega arith) (omega arith) (omega arith) _ c.two_words_difference.ensures c.in-Some.is
 
-pub returns-in-At-eights : goal.returns-in-At-eights
-returns-in-At-eights c =
-    run_front _ _ _ _ (omega arith) _ _ _ (omega arith) c.difference_by_eights-eights.ensures refl _ (omega arith) c.in-At-eights.is
+pub returns-in-Some-difference_by_eights : goal.returns-in-Some-difference_by_eights
+returns-in-Some-difference_by_eights c =
+    let rest = c.args.len - c.args.len / 8 * 8 in
+    run_front _ _ _ rest _ _ (omega arith) (omega arith) (omega arith) _ c.difference_by_eights.ensures c.in-Some-difference_by_eights.is
 
 pub overflow_add-result : goal.overflow_add-result
-overflow_add-result c =
-    omega (arith, run-within _ _ _ _ (omega arith) _ _ c.difference_by_bytes-rest.ensures c.in-At-rest.is)
+overflow_add-result c = omega (arith, run-within _ _ _ _ (omega arith) _ _ c.difference_by_bytes.ensures c.in_ok-o.was)
 
-pub returns-in-At-rest : goal.returns-in-At-rest
-returns-in-At-rest c =
-    let len = c.args.len in
-    let same = front_same _ _ len _ (omega arith) _ _ _ (omega arith) c.difference_by_eights-eights.ensures refl c.in_default-eights.is in
-    run_behind _ _ _ _ (omega arith) _ _ _ (omega arith) (omega arith) same c.difference_by_bytes-rest.ensures c.in-At-rest.is
+pub returns-in_err-o : goal.returns-in_err-o
+returns-in_err-o c =
+    c.from_residual.ensures
+    ∙ rw c.in_err-o.was at (run_behind _ _ _ _ c.args.len _ (omega arith) (omega arith) (omega arith)
+    c.difference_by_eights.ensures c.in_default-difference_by_eights.is c.difference_by_bytes.ensures)
 
-pub returns-in-Nowhere : goal.returns-in-Nowhere
-returns-in-Nowhere c =
-    let len = c.args.len in
-    let same = front_same _ _ len _ (omega arith) _ _ _ (omega arith) c.difference_by_eights-eights.ensures refl c.in_default-eights.is in
-    run_behind _ _ _ _ (omega arith) _ _ _ (omega arith) (omega arith) same c.difference_by_bytes-rest.ensures c.in-Nowhere.is
+pub returns : goal.returns
+returns c =
+    rw c.in_ok-o.was at (run_behind _ _ _ _ c.args.len _ (omega arith) (omega arith) (omega arith)
+    c.difference_by_eights.ensures c.in_default-difference_by_eights.is c.difference_by_bytes.ensures)

@@ -1,17 +1,14 @@
--- Where the numbers are the same so are their bytes, and else the lowest digit of their difference tells the byte. Assumes nothing.
-use mathlib.Core.Path.{sym}
-use native.Mathlib.Omega.{arith}
-use lib.Bits.{bit_xor}
-use lib.Count.{trailing_le}
-use Rattle.runs.proofs.Runs.{nowhere_from}
-use Rattle.runs.proofs.Eights.{loaded_differs, loaded_same}
+-- Two numbers differ first in the byte in which the lowest digit of their difference lies. Assumes nothing.
+use Rattle.std.proofs.Common.{◌≡◌, ◌∙◌, length, arith, rules}
+use Rattle.words.proofs.Parts.{length_part}
+use Rattle.runs.proofs.Eights.{read_four, value_four, lowest_differs, bytes_part}
 use Rattle.runs.proofs.run.word_difference.Goals as goal
 
-pub returns-then-x-eq0 : goal.returns-then-x-eq0
-returns-then-x-eq0 c = sym (nowhere_from (loaded_same 4 _ _ _ _ c.load4.ensures c.if-x-eq0.true))
-
-pub overflow_cast-result : goal.overflow_cast-result
-overflow_cast-result c = omega (arith, trailing_le 32 (bit_xor c.load4.result c.args.w))
-
 pub returns : goal.returns
-returns c = sym (loaded_differs 4 _ _ _ _ c.load4.ensures (omega arith) (omega arith) c.if-x-eq0.false)
+returns c =
+    let a = c.from_le_bytes.ensures ∙ read_four c.args.s.now c.args.at c.requires in
+    let k : length c.args.w ≡ 4 = search rules in
+    let b = c.from_le_bytes-2.ensures ∙ value_four c.args.w k in
+    let l = length_part c.args.s.now c.args.at 4 c.requires in
+    let hx = bytes_part c.args.s.now c.args.at 4 (λ i. let f = c.type_inv.s i in search rules) in
+    c.lowest_byte.ensures ∙ rw (c.from.ensures, a, b) (lowest_differs _ _ (omega arith) (omega arith) hx (λ i. search rules))

@@ -1,8 +1,8 @@
 -- A buffer at that address is the one that is looked for, wherever it is looked for first. Assumes nothing.
+use Rattle.std.specs.Prelude.{Some}
 use mathlib.Core.Path.{◌≡◌, sym, ◌∙◌}
 use Prim.Native.Nat.{ℕ, ◌-◌, ◌<◌}
 use native.Mathlib.Omega.{arith}
-use Rattle.area.specs.declared.place.Place.TheVariants.{At}
 use Rattle.area.proofs.Places.{place_at}
 use Rattle.geometry.specs.Sheet.{buffer_address, buffer_of}
 use Rattle.geometry.specs.Limits.{Lawful}
@@ -10,7 +10,7 @@ use Rattle.geometry.specs.declared.sheet.Sheet.{Sheet}
 use Rattle.geometry.proofs.sheet.Sheet.find_paired.Goals as goal
 
 -- buffer i, whose address the word is
-found : (g : Sheet) (w i : ℕ) → Lawful g → i < g.count → w ≡ buffer_address g i → At i ≡ buffer_of g w
+found : (g : Sheet) (w i : ℕ) → Lawful g → i < g.count → w ≡ buffer_address g i → Some i ≡ buffer_of g w
 found g w i law h e =
     let some : 0 < g.chunk = omega (arith, law.sizes.chunks) in
     sym (place_at g.heap_base g.chunk g.count w i some h e)

@@ -1,5 +1,0 @@
--- The output and the answer are those of the call below. Assumes nothing.
-use Rattle.capi.proofs.reader.cg_report.Goals as goal
-
-pub returns : goal.returns
-returns c = rw (← c.profile_if-profile.ensures, ← c.report.ensures, c.word.ensures)

@@ -1,6 +1,0 @@
--- The two rows and the answer are those of the call below. Assumes nothing.
-use Rattle.capi.proofs.reader.cg_survey.Goals as goal
-
-pub returns : goal.returns
-returns c =
-    rw (← c.profile_if-profile.ensures, ← c.survey_numbers.ensures, c.word.ensures)
