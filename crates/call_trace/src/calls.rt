@@ -9,7 +9,7 @@ use sheet::fields;
 use sheet::lent::{HeapMut, Image, ImageMut};
 use std::io;
 use std::io::Write;
-use tags::format::Format;
+use tags::format::{Format, Profile};
 use transactions::latest;
 use transactions::latest::Transaction;
 
@@ -30,7 +30,7 @@ pub(crate) struct TracedImage<'a> {
 
 impl<'a> TracedImage<'a> {
     // The areas, to be read.
-    fn view<'b>(&'b self) -> Image<'b> {
+    fn view<'b>(&'b self) -> Image<'b, 'b, 'b> {
         Image {
             sheet: &self.sheet,
             heap: &self.heap,
@@ -67,6 +67,40 @@ impl<'a> TracedImage<'a> {
             records,
         }
     }
+}
+
+// What the client of a buffer sees: a part that keeps the heap alone lent, and neither the sheet nor the records.
+fn shown<'h>(
+    profile: Profile,
+    sheet: &[u8],
+    heap: &'h [u8],
+    records: &[u8],
+    address: u32,
+) -> &'h [u8] {
+    let image = Image {
+        sheet,
+        heap,
+        records,
+    };
+    show::show(profile, &image, address)
+}
+
+// The latest transaction: a part that keeps the records and the log lent, and neither the sheet nor the heap.
+fn latest_part<'a>(
+    profile: Profile,
+    sheet: &[u8],
+    heap: &[u8],
+    records: &'a [u8],
+    log: &'a [u8],
+    index: u32,
+    time: u32,
+) -> &'a [u8] {
+    let image = Image {
+        sheet,
+        heap,
+        records,
+    };
+    latest::latest(profile, &image, log, index, time)
 }
 
 // A log of three rows.
@@ -127,7 +161,8 @@ impl<'a, W: Write> Trace<'a, W> {
             }
             Err(why) => lines::put_refusal(self.output, "find_client", why)?,
         }
-        lines::put_part(self.output, "show", show::show(profile, &image, address))
+        let part = shown(profile, image.sheet, image.heap, image.records, address);
+        lines::put_part(self.output, "show", part)
     }
 
     // Where the latest transaction of a buffer stands, and its bytes.
@@ -139,7 +174,15 @@ impl<'a, W: Write> Trace<'a, W> {
             Ok(Transaction::Record(j)) => writeln!(self.output, "find_latest record {j}")?,
             Err(why) => lines::put_refusal(self.output, "find_latest", why)?,
         }
-        let part = latest::latest(profile, &image, &self.log, index, time);
+        let part = latest_part(
+            profile,
+            image.sheet,
+            image.heap,
+            image.records,
+            &self.log,
+            index,
+            time,
+        );
         lines::put_part(self.output, "latest", part)
     }
 

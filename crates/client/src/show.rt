@@ -58,7 +58,7 @@ pub fn find_client(profile: Profile, image: &Image, address: u32) -> Result<Show
 }
 
 // The client's bytes themselves; empty where they are refused.
-pub fn show<'a>(profile: Profile, image: &Image<'a>, address: u32) -> &'a [u8]
+pub fn show<'s, 'a, 'r>(profile: Profile, image: &Image<'s, 'a, 'r>, address: u32) -> &'a [u8]
     ensures bytes { result.now ≡ shown_part image.now.heap.now (shown_of profile (seen image.now) address) }
     ensures place { ShownPlace image.now.heap (shown_of profile (seen image.now) address) result }
 {

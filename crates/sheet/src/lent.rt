@@ -2,12 +2,12 @@
 ghost use Rattle.std.specs.Prelude.{◌≡◌};
 ghost use Rattle.sheet.specs.Lent.{seen, lent, lent_heap};
 
-// To be read.
+// To be read. Each area is lent for a time of its own, so that a part of one does not keep the others lent.
 #[derive(Clone, Copy)]
-pub struct Image<'a> {
-    pub sheet: &'a [u8],
-    pub heap: &'a [u8],
-    pub records: &'a [u8],
+pub struct Image<'s, 'h, 'r> {
+    pub sheet: &'s [u8],
+    pub heap: &'h [u8],
+    pub records: &'r [u8],
 }
 
 // To be written.
@@ -28,7 +28,7 @@ pub struct HeapMut<'a> {
 
 impl<'a> ImageMut<'a> {
     // The same areas, to be read.
-    pub fn view<'b>(&'b self) -> Image<'b>
+    pub fn view<'b>(&'b self) -> Image<'b, 'b, 'b>
         ensures { seen result ≡ lent self.now }
     {
         Image {
@@ -41,7 +41,7 @@ impl<'a> ImageMut<'a> {
 
 impl<'a> HeapMut<'a> {
     // The same areas, to be read.
-    pub fn view<'b>(&'b self) -> Image<'b>
+    pub fn view<'b>(&'b self) -> Image<'b, 'b, 'b>
         ensures { seen result ≡ lent_heap self.now }
     {
         Image {

@@ -81,7 +81,10 @@ pub fn open(
 
 // The image that three areas are, or why they are none.
 #[inline(never)]
-pub fn open_image<'a>(profile: Profile, image: &Image<'a>) -> Result<OpenImage<'a>, Refusal>
+pub fn open_image<'s, 'a>(
+    profile: Profile,
+    image: &Image<'s, 'a, 'a>,
+) -> Result<OpenImage<'a>, Refusal>
     ensures sheet { sheet_open result ≡ opening profile (seen image.now) }
     ensures areas { IfOk result (λ o. (o.heap ≡ image.now.heap) × (o.records ≡ image.now.records)) }
 {
@@ -113,9 +116,9 @@ pub fn open_with_log(
 }
 
 // The image that three areas are where a log is given too, or why they are none.
-pub fn open_image_with_log<'a>(
+pub fn open_image_with_log<'s, 'a>(
     profile: Profile,
-    image: &Image<'a>,
+    image: &Image<'s, 'a, 'a>,
     log: &[u8],
 ) -> Result<OpenImage<'a>, Refusal>
     ensures sheet { sheet_open result ≡ opening_with_log profile (seen image.now) (length log.now) }

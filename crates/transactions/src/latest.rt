@@ -119,9 +119,9 @@ pub fn find_latest(
 }
 
 // The latest transaction itself, as a part of the log or of the record area; empty where it is refused.
-pub fn latest<'a>(
+pub fn latest<'s, 'h, 'a>(
     profile: Profile,
-    image: &Image<'a>,
+    image: &Image<'s, 'h, 'a>,
     log: &'a [u8],
     index: u32,
     time: u32,
