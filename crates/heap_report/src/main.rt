@@ -56,7 +56,9 @@ fn tell_refusal<W: Write>(output: &mut W, why: Refusal) -> io::Result<()> {
 }
 
 // Writes the answer to what was read: the report, or why there is none. The input has no magazine list: it is empty. No report is
-// longer than the space for its text.
+// longer than the space for its text. A call of its own, since compiled into `main` the space would be on the stack for an input that
+// is refused by its first bytes, too.
+#[inline(never)]
 fn tell<W: Write>(output: &mut W, image: &Image, log: &[u8]) -> io::Result<()> {
     let mut text = [0u8; 65535];
     match answer::report(Profile::Kernel, image, &[], log, &mut text) {
