@@ -12,7 +12,8 @@ pub returns-clause-within : goal.returns-clause-within
 unfolding allocate_plan
 returns-clause-within c =
     let t = taken_if c.args.profile (seen c.args.image.now) c.args.grant c.args.thread in
-    let o : opening c.args.profile (seen c.args.image.now) ≡ Ok c.in_ok-image.image.sheet
-    = sym c.open_image.ensures.sheet ∙ ap sheet_open c.in_ok-image.was in
+    let o : opening c.args.profile (seen c.args.image.now) ≡ Ok c.in-Ok.image.sheet
+    = sym c.open_image.ensures.sheet ∙ ap sheet_open c.in-Ok.is in
+    let a = rw c.in-Ok.is at c.open_image.ensures.areas in
     let u = simp (o, ne_eqb _ _ c.if-thread-eq0.false) at t in
-    simp (c.take.ensures, c.in_ok-image.ensures.areas.0, c.in_ok-image.ensures.areas.1) u
+    simp (c.take.ensures, a.0, a.1) u
