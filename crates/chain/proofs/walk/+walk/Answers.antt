@@ -1,5 +1,9 @@
 -- A record that is met leaves one fewer, and the rest is the chain from its next word. Assumes nothing.
-use Rattle.std.proofs.Common.{rules, sym, ◌∙◌, arith}
+use Rattle.std.proofs.Common.{rules, sym, ap, ◌∙◌, ◌+◌, ◌-◌, arith}
+use Rattle.words.specs.Word.{number_at}
+use Rattle.words.specs.declared.word.Order.{Order}
+use Rattle.tags.proofs.Formats.{order_back}
+use Rattle.area.specs.Record.{next_at}
 use Rattle.chain.proofs.MetRecords.{unmet-set}
 use Rattle.chain.proofs.Walking.{record_found, stops_end, stops_broken, stops_again, goes_on}
 use Rattle.chain.proofs.walk.+walk.Goals as goal
@@ -22,5 +26,5 @@ walk-requires t c =
 
 pub returns : goal.returns
 returns t c =
-    goes_on _ _ _ _ _ c.in-Some.i c.if-word-eq0.false (sym c.find_record.ensures ∙ c.in-Some.is) _ _ _ c.if-marks-i-ne0.false c.read_at-next.ensures
-    c.walk.ensures
+    let o = c.read_at-next.ensures ∙ ap (λ (o : Order). number_at o 4 c.args.records.now (c.args.word + next_at - c.args.g.now.record_base)) (search (rules, order_back)) in
+    goes_on _ _ _ _ _ c.in-Some.i c.if-word-eq0.false (sym c.find_record.ensures ∙ c.in-Some.is) _ _ _ c.if-marks-i-ne0.false o c.walk.ensures

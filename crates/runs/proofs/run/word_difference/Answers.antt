@@ -1,6 +1,8 @@
 -- Two numbers differ first in the byte in which the lowest digit of their difference lies. Assumes nothing.
-use Rattle.std.proofs.Common.{◌≡◌, ◌∙◌, length, arith, rules}
+use Rattle.std.proofs.Common.{◌≡◌, ℕ, ◌∙◌, ap, length, arith, rules}
+use Rattle.words.specs.Word.{part}
 use Rattle.words.proofs.Parts.{length_part}
+use Rattle.runs.specs.Run.{difference, lowest_byte}
 use Rattle.runs.proofs.Eights.{read_four, value_four, lowest_differs, bytes_part}
 use Rattle.runs.proofs.run.word_difference.Goals as goal
 
@@ -11,4 +13,6 @@ returns c =
     let b = c.from_le_bytes-2.ensures ∙ value_four c.args.w k in
     let l = length_part c.args.s.now c.args.at 4 c.requires in
     let hx = bytes_part c.args.s.now c.args.at 4 (λ i. let f = c.type_inv.s i in search rules) in
-    c.lowest_byte.ensures ∙ rw (c.from.ensures, a, b) (lowest_differs _ _ (omega arith) (omega arith) hx (λ i. search rules))
+    let d : lowest_byte c.from.result ≡ difference (part c.args.s.now c.args.at 4) c.args.w =
+    rw (c.from.ensures, a, b) (lowest_differs _ _ (omega arith) (omega arith) hx (λ i. search rules)) in
+    c.lowest_byte.ensures ∙ ap (λ (n : ℕ). lowest_byte n) (omega (arith, c.from.ensures)) ∙ d
