@@ -104,16 +104,17 @@ placed base stride n w i e = let f = place_found base stride n w i e in record {
 pub buffer_placed : (g : Sheet) (w i : ℕ) → buffer_of g w ≡ Some i → Placed g.heap_base g.chunk g.count w i
 buffer_placed g w i e = placed g.heap_base g.chunk g.count w i e
 
-module _ (g : Sheet) (law : Lawful g) (w : ℕ) where
-  chunk_some : 0 < g.chunk
-  chunk_some = omega (arith, law.sizes.chunks)
+-- a lawful sheet has chunks of some bytes
+pub chunk_some : (g : Sheet) → Lawful g → 0 < g.chunk
+chunk_some g law = omega (arith, law.sizes.chunks)
 
+module _ (g : Sheet) (some : 0 < g.chunk) (w : ℕ) where
   -- where the word is the address of buffer k, it is no other's; and where it is none's
   no_other : (k i : ℕ) → buffer_of g w ≡ Some k → i ≢ k → w ≢ buffer_address g i
-  no_other k i e d q = d (address_one g.heap_base g.chunk i k chunk_some (sym q ∙ (buffer_placed g w k e).at))
+  no_other k i e d q = d (address_one g.heap_base g.chunk i k some (sym q ∙ (buffer_placed g w k e).at))
 
-  no_buffer : (i : ℕ) → buffer_of g w ≡ None → i < g.count → w ≢ buffer_address g i
-  no_buffer i e h q = place_missed g.heap_base g.chunk g.count w chunk_some e i h q
+  pub no_buffer : buffer_of g w ≡ None → (i : ℕ) → i < g.count → w ≢ buffer_address g i
+  no_buffer e i h q = place_missed g.heap_base g.chunk g.count w some e i h q
 
 module _ (g : Sheet) (records : List ℕ) where
   -- the marks when the first j records are counted
@@ -127,11 +128,14 @@ module _ (g : Sheet) (records : List ℕ) where
     pub small_at : (i : ℕ) → i < g.count → get_or marks i 0 < 6
     small_at i h = let b = byte_at i h in let s = byte_small (to_one (occ i met)) (named_by g records j i) (one_most (occ i met)) in omega arith
 
+    pub names_at : (i : ℕ) → i < g.count → names_digit (get_or marks i 0) ≡ names_after g records j i
+    names_at i h = ap names_digit (byte_at i h) ∙ byte_names (to_one (occ i met)) (named_by g records j i) (one_most (occ i met))
+
   pub counted_none : (marks : List ℕ) → marks ≡ replicate g.count 0 → Counted 0 marks
   unfolding namers
   counted_none marks e = e ∙ area_clear g.count
 
-  module _ (law : Lawful g) (j : ℕ) (marks : List ℕ) (e : Counted j marks) where
+  module _ (some : 0 < g.chunk) (j : ℕ) (marks : List ℕ) (e : Counted j marks) where
     -- record j names buffer k, and no other
     pub counted_hit : (k v : ℕ) → buffer_of g (address_word g.format records j) ≡ Some k → v ≡ with_name (get_or marks k 0) → Counted (j + 1) (set marks k v)
     unfolding namers
@@ -141,17 +145,17 @@ module _ (g : Sheet) (records : List ℕ) where
         rw add-one
         (counts_hit g.count (λ i. byte (to_one (occ i []))) (named_by g records j) (named_by g records (suc j)) marks e k v f.within
         (simp (eq-eqb w (buffer_address g k) f.at))
-        (λ i o. simp (ne_eqb w (buffer_address g i) (no_other g law w k i b o)))
+        (λ i o. simp (ne_eqb w (buffer_address g i) (no_other g some w k i b o)))
         (d ∙ ap with_name (byte_at j [] marks e k f.within) ∙ byte_name (to_one (occ k [])) (named_by g records j k) (one_most (occ k []))))
 
-    -- record j names none of them
-    pub counted_miss : buffer_of g (address_word g.format records j) ≡ None → Counted (j + 1) marks
-    unfolding namers
-    counted_miss b =
-        let w = address_word g.format records j in
-        rw add-one
-        (counts_miss g.count (λ i. byte (to_one (occ i []))) (named_by g records j) (named_by g records (suc j)) marks e
-        (λ i l. simp (ne_eqb w (buffer_address g i) (no_buffer g law w i b l))))
+  -- record j names none of them
+  pub counted_miss : (j : ℕ) (marks : List ℕ) → ((i : ℕ) → i < g.count → address_word g.format records j ≢ buffer_address g i)
+      → Counted j marks → Counted (j + 1) marks
+  unfolding namers
+  counted_miss j marks h e =
+      rw add-one
+      (counts_miss g.count (λ i. byte (to_one (occ i []))) (named_by g records j) (named_by g records (suc j)) marks e
+      (λ i l. simp (ne_eqb (address_word g.format records j) (buffer_address g i) (h i l))))
 
   -- ---- the marks of an image
 
@@ -207,7 +211,7 @@ module _ (g : Sheet) (l : List ℕ) where
   listed_none entry rest small e =
       counts_miss g.count (λ j r. to_one (occ j []) + 2 * r) rest (with_listed g [] rest) entry e (λ i h. simp occ-none (omega arith))
 
-  module _ (law : Lawful g) (k : ℕ) (entry marks : List ℕ) (h : k < length l) (c : Listed k entry marks) where
+  module _ (some : 0 < g.chunk) (k : ℕ) (entry marks : List ℕ) (h : k < length l) (c : Listed k entry marks) where
     -- word k is the address of buffer i, and of no other
     pub listed_hit : (i v : ℕ) → buffer_of g (get_or l k 0) ≡ Some i → v ≡ with_listing (get_or marks i 0) → Listed (k + 1) entry (set marks i v)
     listed_hit i v b d rest small e =
@@ -217,9 +221,16 @@ module _ (g : Sheet) (l : List ℕ) where
         f.within
         (listed_more k i h ∙ simp (eq-eqb (buffer_address g i) (get_or l k 0) (sym f.at)) (omega arith))
         (λ j o. listed_more k j h
-        ∙ simp (ne_eqb (buffer_address g j) (get_or l k 0) (λ z. no_other g law (get_or l k 0) i j b o (sym z))) (omega arith))
+        ∙ simp (ne_eqb (buffer_address g j) (get_or l k 0) (λ z. no_other g some (get_or l k 0) i j b o (sym z))) (omega arith))
         (d ∙ ap with_listing (ap (λ (a : List ℕ). get_or a i 0) (c rest small e) ∙ area_at g.count (with_listed g (take k l) rest) [] i f.within)
         ∙ listing_more (to_one (occ i [])) (rest i) (listed_in g (take k l) i) (one_most (occ i [])) (small i)))
+
+  -- word k is no buffer's
+  pub listed_miss : (k : ℕ) (entry marks : List ℕ) → k < length l → Listed k entry marks → ((i : ℕ) → i < g.count → get_or l k 0 ≡ buffer_address g i → ⊥)
+      → Listed (suc k) entry marks
+  listed_miss k entry marks h c o rest small e =
+      counts_miss g.count (λ j. listing (to_one (occ j [])) (rest j)) (listed_in g (take k l)) (listed_in g (take (suc k) l)) marks (c rest small e)
+      (λ i b. listed_more k i h ∙ simp (ne_eqb (buffer_address g i) (get_or l k 0) (λ z. o i b (sym z))) (omega arith))
 
   -- whether every word is a buffer's address: from word k on, and from the next
   module _ (k : ℕ) (h : k < length l) where

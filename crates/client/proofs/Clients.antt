@@ -34,7 +34,7 @@ use Rattle.client.specs.declared.show.Shown.{Shown}
 -- ---- where they are
 
 -- the client's bytes start near the buffer's start
-start_near : (p : Holding) → client_start p ≤ 8
+pub start_near : (p : Holding) → client_start p ≤ 8
 start_near p = go p.grant
   where
     go : (q : Grant) → client_offset p.spot.sheet.format.profile q ≤ 8

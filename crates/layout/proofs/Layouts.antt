@@ -1,9 +1,11 @@
 -- The laws of an image that is laid out. Assumes nothing.
 use Rattle.std.specs.Prelude.{Result, Ok, Err, IfOk}
 use mathlib.Core.Path.{◌≡◌, refl}
+use mathlib.Core.Bool.{Bool, true, false, cond}
 use Prim.Native.Nat.{ℕ, suc, ◌≤◌, ◌<◌}
 use native.Mathlib.Omega.{arith}
-use borrow.Author.Tests.{lt-ltb, le-ltb}
+use borrow.Author.Tests.{eqb-true, lt-ltb, le-ltb}
+use lib.Dec.{eqb}
 use lib.ListN.{length}
 use Rattle.chunks.proofs.Chunks.{length-free_chunk}
 use Rattle.area.specs.Record.{record_size}
@@ -15,7 +17,8 @@ use Rattle.sheet.specs.Opening.{numbered}
 use Rattle.geometry.specs.declared.sheet.Sheet.{Sheet}
 use Rattle.sheet.proofs.Opens.{numbered_known}
 use Rattle.tags.specs.declared.refusal.Refusal.{Refusal}
-use Rattle.layout.specs.Layout.{laid_chunk, link_to, laid_record, Planned}
+use Rattle.tags.specs.declared.refusal.Refusal.TheVariants.{BadSheet}
+use Rattle.layout.specs.Layout.{laid_chunk, link_to, laid_record, lay_out_plan, Planned}
 
 module _ (g : Sheet) where
   -- ---- a chunk and a record
@@ -43,3 +46,12 @@ planned_if g s h r long = go (numbered g h r) refl
     go : (o : Result Sheet Refusal) → numbered g h r ≡ o → IfOk o (Planned s h r)
     go (Ok o) e = record { long = long; opens = (numbered_known g h r o e).1.1 }
     go (Err why) e = tt
+
+-- and those that the plan lets pass
+pub planned_known : (g : Sheet) (s h r : ℕ) (o : Sheet) → lay_out_plan g s h r ≡ Ok o → Planned s h r o
+unfolding lay_out_plan
+planned_known g s h r o e = go (eqb s sheet_length) refl e
+  where
+    go : (b : Bool) → eqb s sheet_length ≡ b → cond b (numbered g h r) (Err BadSheet) ≡ Ok o → Planned s h r o
+    go true q f = record { long = eqb-true s sheet_length q; opens = (numbered_known g h r o f).1.1 }
+    go false q f = absurd (let z : ◌≡◌ {A = ℕ} 0 1 = cc in omega arith)

@@ -16,8 +16,10 @@ use Rattle.std.specs.Int.{w32, w64, from_le_bytes}
 use Rattle.std.specs.Prelude.{Some}
 use Rattle.std.proofs.lemmas.List.{drop_all, get_or_past, length-take}
 use Rattle.words.specs.Word.{part}
+use Rattle.words.specs.Native.{low_bytes}
 use Rattle.runs.specs.Run.{repeated, difference_from, difference, lowest_byte, Alike}
 use Rattle.words.proofs.Parts.{length_part, get_or_part, part_none, part_two}
+use Rattle.words.proofs.Loads.{length_low}
 use Rattle.runs.proofs.Runs.{nowhere_from, repeated_add}
 
 -- ---- differences gathered by `|` and made by `^` are none
@@ -128,6 +130,28 @@ value_differs m i (x ∷ xs) (y ∷ ys) e hx hy ne =
     go (no d) p ih =
         let t = trailing_among 8 (length xs * 8 + m) (bit_xor (value (x ∷ xs)) (value (y ∷ ys))) (λ f. d (xor_none x y (sym p.0 ∙ f))) in
         rw (ne_eqb x y d) (ap Some (omega arith))
+
+-- the same of two numbers, by their lowest k bytes
+low_value : (k v : ℕ) → v < 256 ^ k → value (low_bytes k v) ≡ v
+unfolding low_bytes
+low_value zero v h = omega arith
+low_value (suc k) v h =
+    let s : v / 256 < 256 ^ k = omega (arith, pow-succ' 256 k) in
+    rw (low_value k (v / 256) s) (omega arith)
+
+low_below : (k v : ℕ) → Bytes (low_bytes k v)
+unfolding low_bytes
+low_below zero v i = omega arith
+low_below (suc k) v zero = omega arith
+low_below (suc k) v (suc i) = low_below k (v / 256) i
+
+pub low_differs : (k i a b : ℕ) → a < 256 ^ k → b < 256 ^ k → (a ≡ b → ⊥)
+    → difference_from i (low_bytes k a) (low_bytes k b) ≡ Some (i + count_trailing_zeros (k * 8) (bit_xor a b) / 8)
+low_differs k i a b ha hb ne =
+    let n : value (low_bytes k a) ≡ value (low_bytes k b) → ⊥ = λ e. ne (sym (low_value k a ha) ∙ e ∙ low_value k b hb) in
+    let e : length (low_bytes k a) ≡ length (low_bytes k b) = length_low k a ∙ sym (length_low k b) in
+    let f = value_differs 0 i (low_bytes k a) (low_bytes k b) e (low_below k a) (low_below k b) n in
+    rw (length_low k a, low_value k a ha, low_value k b hb, add-zero) at f
 
 -- so the lowest byte of how two numbers differ tells where their bytes do
 module _ (xs ys : List ℕ) (e : length xs ≡ length ys) (most : length xs ≤ 8) (hx : Bytes xs) (hy : Bytes ys) where

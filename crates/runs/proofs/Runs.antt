@@ -92,6 +92,17 @@ pub differs_here : (xs ys : List ℕ) (i : ℕ) → i < length xs → i < length
 unfolding difference_from
 differs_here xs ys i hx hy ne = rw (drop-cons xs i 0 hx, drop-cons ys i 0 hy, ne_eqb _ _ ne)
 
+-- so lists whose first i elements are the same, and not the next, differ first there
+pub differs_at : (k : ℕ) (xs ys : List ℕ) (i : ℕ) → i < length xs → i < length ys → ((j : ℕ) → j < i → get_or xs j 0 ≡ get_or ys j 0)
+    → (get_or xs i 0 ≡ get_or ys i 0 → ⊥) → difference_from k xs ys ≡ Some (k + i)
+unfolding difference_from
+differs_at k [] ys i hx hy h ne = absurd (omega arith)
+differs_at k (x ∷ xs) [] i hx hy h ne = absurd (omega arith)
+differs_at k (x ∷ xs) (y ∷ ys) zero hx hy h ne = rw (ne_eqb x y ne, add-zero)
+differs_at k (x ∷ xs) (y ∷ ys) (suc i) hx hy h ne =
+    let e : k + suc i ≡ suc k + i = omega arith in
+    rw (eq-eqb x y (h 0 (omega arith)), e) (differs_at (suc k) xs ys i (omega arith) (omega arith) (λ j g. h (suc j) (omega arith)) ne)
+
 -- nothing is left
 pub differs_nowhere : (xs ys : List ℕ) (i : ℕ) → length xs ≤ i → difference_from i (drop i xs) ys ≡ None
 unfolding difference_from
@@ -145,7 +156,8 @@ differs_both k (x ∷ xs) (y ∷ ys) zs us e =
     go true ih = ih
     go false ih = refl
 
-same_from : (k : ℕ) (l : List ℕ) → difference_from k l l ≡ None
+-- lists that are the same differ nowhere, and lists of one length that differ nowhere are the same
+pub same_from : (k : ℕ) (l : List ℕ) → difference_from k l l ≡ None
 unfolding difference_from
 same_from k [] = refl
 same_from k (x ∷ xs) = rw (eq-eqb x x refl, same_from (suc k) xs)
@@ -155,6 +167,19 @@ same_nowhere l = same_from 0 l
 
 pub nowhere_from : {xs ys : List ℕ} → xs ≡ ys → difference xs ys ≡ None
 nowhere_from {xs} {ys} e = rw e (same_nowhere ys)
+
+pub nowhere_same : (k : ℕ) (xs ys : List ℕ) → length xs ≡ length ys → difference_from k xs ys ≡ None → xs ≡ ys
+unfolding difference_from
+nowhere_same k [] [] e d = refl
+nowhere_same k [] (y ∷ ys) e d = absurd (omega arith)
+nowhere_same k (x ∷ xs) [] e d = absurd (omega arith)
+nowhere_same k (x ∷ xs) (y ∷ ys) e d = go (ℕ_discrete x y) (nowhere_same (suc k) xs ys (omega arith))
+  where
+    go : Dec (x ≡ y) → (difference_from (suc k) xs ys ≡ None → xs ≡ ys) → x ∷ xs ≡ y ∷ ys
+    go (yes q) ih = rw (q, ih (sym (ap (λ (b : Bool). cond b (difference_from (suc k) xs ys) (Some k)) (eq-eqb x y q)) ∙ d))
+    go (no q) ih =
+        let f : ◌≡◌ {A = Option ℕ} (Some k) None = sym (ap (λ (b : Bool). cond b (difference_from (suc k) xs ys) (Some k)) (ne_eqb x y q)) ∙ d in
+        absurd (let z : ◌≡◌ {A = ℕ} 0 1 = cc in omega arith)
 
 -- ---- runs that are filled or compared from the front
 

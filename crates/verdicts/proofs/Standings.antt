@@ -11,10 +11,10 @@ use Rattle.tags.specs.declared.tag.Pattern.{Pattern}
 use Rattle.chain.specs.Marks.{to_two}
 use Rattle.verdicts.specs.Judge.{standing, is_freed_twice, is_at_rest, chained_verdict}
 
-two_listed : (k : ℕ) → leb 2 (suc (suc k)) ≡ true
+pub two_listed : (k : ℕ) → leb 2 (suc (suc k)) ≡ true
 two_listed k = le-leb 2 (suc (suc k)) (omega arith)
 
-some_listed : (k : ℕ) → eqb (suc k) 0 ≡ false
+pub some_listed : (k : ℕ) → eqb (suc k) 0 ≡ false
 some_listed k = ne_eqb (suc k) 0 (λ e. omega arith)
 
 pub chained_to_two : (f : Format) (c : List ℕ) (p : Pattern) (met again : Bool) (k : ℕ)

@@ -36,7 +36,7 @@ bytes_reverse [] h = h
 bytes_reverse (x ∷ xs) h = rw (reverse-cons x xs) (bytes_append (reverse xs) (x ∷ []) (bytes_reverse xs h.1) (h.0, tt))
 
 -- the bytes of a part of a slice's list
-bytes_part : (n : ℕ) (l : List ℕ) (at : ℕ) → at + n ≤ length l → ((i : ℕ) → get_or l i 0 < 256) → Bytes (part l at n)
+pub bytes_part : (n : ℕ) (l : List ℕ) (at : ℕ) → at + n ≤ length l → ((i : ℕ) → get_or l i 0 < 256) → Bytes (part l at n)
 bytes_part zero l at h f = rw (part_none l at) tt
 bytes_part (suc n) l at h f = rw (part_cons l at n (omega arith)) (f at, bytes_part n l (at + 1) (omega arith) f)
 
@@ -67,7 +67,7 @@ unfolding number bytes_of
 number_back o k v h = ap low_number (turned_twice o (low_bytes k v)) ∙ low_back k v h
 
 -- and bytes from their number
-bytes_of_number : (o : Order) (k : ℕ) (bs : List ℕ) → length bs ≡ k → Bytes bs → bytes_of o k (number o bs) ≡ bs
+pub bytes_of_number : (o : Order) (k : ℕ) (bs : List ℕ) → length bs ≡ k → Bytes bs → bytes_of o k (number o bs) ≡ bs
 unfolding number bytes_of
 bytes_of_number o k bs e h =
     rw (← e, ← length-turned o bs, low_bytes_lem (turned o bs) (bytes_turned o bs h)) (turned_twice o bs)

@@ -1,6 +1,6 @@
 -- A word that is a buffer's address changes that buffer's byte, and no other. Assumes nothing.
 use Rattle.std.proofs.Common.{refl, sym, ◌∙◌, arith}
-use Rattle.chain.proofs.Counts.{placed, listed_none, listed_hit, all_hit, all_miss, all_end}
+use Rattle.chain.proofs.Counts.{placed, chunk_some, listed_none, listed_hit, all_hit, all_miss, all_end}
 use Rattle.chain.proofs.marks.count_listed.Goals as goal
 
 pub loop-word-init : goal.loop-word-init
@@ -21,7 +21,7 @@ loop-word-preserved c =
     let v = c.loop-word.invariant in
     let b = sym c.find_buffer.ensures ∙ c.in-Some.is in (
       v.0 ∙ all_hit c.args.g _ _ c.loop-word-test.true c.in-Some.i b,
-      listed_hit c.args.g _ c.requires.lawful _ _ _ c.loop-word-test.true v.1 c.in-Some.i _ b c.with_listing.ensures,
+      listed_hit c.args.g _ (chunk_some c.args.g c.requires.lawful) _ _ _ c.loop-word-test.true v.1 c.in-Some.i _ b c.with_listing.ensures,
     )
 
 pub returns-clause-ok : goal.returns-clause-ok

@@ -1,7 +1,7 @@
 -- A record that names a buffer changes its byte, and no other. Assumes nothing.
 use Rattle.std.proofs.Common.{[], sym, ap, ◌∙◌, ◌<◌, ℕ, length, arith}
 use Rattle.std.proofs.lemmas.List.{length-replicate}
-use Rattle.chain.proofs.Counts.{placed, small_at, counted_none, counted_hit, counted_miss}
+use Rattle.chain.proofs.Counts.{placed, chunk_some, no_buffer, small_at, counted_none, counted_hit, counted_miss}
 use Rattle.chain.proofs.marks.count_names.Goals.{In-Some, in-Some, in_default}
 use Rattle.chain.proofs.marks.count_names.Goals as goal
 
@@ -24,6 +24,6 @@ with_name-requires c = small_at c.args.g c.args.records.now c.loop-j.j [] _ c.lo
 pub loop-j-preserved : goal.loop-j-preserved
 loop-j-preserved c =
     elim c.match-find_paired.branch [
-      | in-Some w ↦ rw w.marks-is (counted_hit c.args.g _ c.requires.lawful _ _ c.loop-j.invariant _ _ (cc) w.with_name.ensures)
-      | in_default w ↦ rw w.marks-is (counted_miss c.args.g _ c.requires.lawful _ _ c.loop-j.invariant (cc))
+      | in-Some w ↦ rw w.marks-is (counted_hit c.args.g _ (chunk_some c.args.g c.requires.lawful) _ _ c.loop-j.invariant _ _ (cc) w.with_name.ensures)
+      | in_default w ↦ rw w.marks-is (counted_miss c.args.g _ _ _ (no_buffer c.args.g (chunk_some c.args.g c.requires.lawful) _ (cc)) c.loop-j.invariant)
     ]
